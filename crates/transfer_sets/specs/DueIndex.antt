@@ -26,6 +26,10 @@ IsFirstOf index n (Some first) = IsLeastOf index n first.0 first.1
 abbrev pub IsFirst : List (Option ℕ) → Option (ℕ × ℕ) → Type 0
 IsFirst index first = IsFirstOf index (length index) first
 
+-- no moment of an index is before this one
+abbrev pub AreFrom : List (Option ℕ) → ℕ → Type 0
+AreFrom index earliest = (s moment : ℕ) → next_at index s ≡ Some moment → earliest ≤ moment
+
 -- the moments of the slots from one on and below another haven't come
 abbrev pub HaveNotCome : List (Option ℕ) → ℕ → ℕ → ℕ → Type 0
 HaveNotCome index to after end =

@@ -1,8 +1,9 @@
 //! Transfer sets by the next moment at which something of each is due.
 ghost use Rattle.std.specs.Prelude.{◌≡◌, ◌↔◌, ◌<◌, ◌+◌, ℕ, IsTrue, List, Option, None, length};
-ghost use Rattle.std.specs.Prelude.{replicate, slice_set, IfOk, true};
+ghost use Rattle.std.specs.Prelude.{replicate, slice_set, IfOk, true, false};
 ghost use Rattle.transfer_sets.specs.NextDue.{has_come};
 ghost use Rattle.transfer_sets.specs.DueIndex.{next_at, IsFirstOf, IsFirst, IsNextCome};
+ghost use Rattle.transfer_sets.specs.DueIndex.{HaveNotCome};
 
 use std::alloc::{AllocError, Global};
 use std::marker::Model;
@@ -12,16 +13,20 @@ use std::marker::Model;
 #[derive(Debug, Drop)]
 pub struct DueIndex {
     moments: Vec<Option<u64>>,
+    /// No moment is before this one.
+    earliest: u64,
 }
 
 impl Model for DueIndex {
     ghost use Rattle.std.specs.Prelude.{◌<◌, ℕ, List, Option, vec_len};
+    ghost use Rattle.transfer_sets.specs.DueIndex.{AreFrom};
 
     ghost Value = { List (Option ℕ) };
 
     ghost view = { λ d. d.moments.items };
 
-    ghost invariant = { λ d. vec_len d.moments < 4294967296 };
+    ghost invariant = { λ d. (vec_len d.moments < 4294967296)
+        × AreFrom d.moments.items d.earliest };
 }
 
 impl DueIndex {
@@ -33,7 +38,10 @@ impl DueIndex {
         for slot in 0..slots {
             moments.push(None)?;
         }
-        Ok(DueIndex { moments })
+        Ok(DueIndex {
+            moments,
+            earliest: 0,
+        })
     }
 
     /// The moment of a transfer set, if it has one.
@@ -57,7 +65,29 @@ impl DueIndex {
         requires { slot < length self.old }
         ensures { self.new ≡ slice_set self.old slot moment }
     {
+        if let Some(moment) = moment {
+            self.earliest = self.earliest.min(moment);
+        }
         self.moments[slot as usize] = moment;
+    }
+
+    /// False only where the moment of no transfer set has come while the clock stands at `now`. It
+    /// looks at none of them.
+    pub fn may_have_come(&self, now: u64) -> bool
+        ensures { result ≡ false → HaveNotCome self.now now 0 (length self.now) }
+    {
+        self.earliest <= now
+    }
+
+    /// Notes the first moment, so that `may_have_come` is false until then: behind calls of `set` it
+    /// may be true from an earlier one on.
+    pub fn settle(&mut self)
+        ensures { self.new ≡ self.old }
+    {
+        self.earliest = match self.first() {
+            Some((moment, _)) => moment,
+            None => u64::MAX,
+        };
     }
 
     /// The first moment with its transfer set, the lowest of several; none where no transfer set
