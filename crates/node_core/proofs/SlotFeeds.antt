@@ -207,6 +207,18 @@ all_reported cause n old new all r = record {
       (cases_lt s n);
 }
 
+-- where nothing is due of any, a tick tells nothing
+pub none_reported_on : (from to : ℕ) (old : List OwnedSlot) → ((s : ℕ) → s < length old
+    → not (conditions_due (slot_at old s).state from to == 0) ≡ false)
+    → AreReported (Tick from to) old old
+none_reported_on from to old none =
+    all_reported (Tick from to) (length old) old old (omega arith) (record {
+      many = refl;
+      done = λ s below. undue_reported (slot_at old s)
+          (conditions_due (slot_at old s).state from to) (none s below);
+      left = λ s past. refl;
+    })
+
 -- ---- a tick, by what its index has
 
 pub none_due : (conditions : ℕ) → not (conditions == 0) ≡ false → conditions ≡ 0

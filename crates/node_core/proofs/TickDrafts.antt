@@ -8,7 +8,7 @@ use Rattle.std.specs.List.{All, range_with_len}
 use Rattle.std.proofs.lemmas.Bool.{cases_eq}
 use Rattle.std.proofs.lemmas.List.{length-map, get_or-map, append-nil, set-get_or}
 use Rattle.std.proofs.lemmas.List.{get_or_default}
-use Rattle.std.proofs.Common.{◌==◌, not, min}
+use Rattle.std.proofs.Common.{◌==◌, not, min, zero, suc}
 use Rattle.bilateral.specs.Rows.{CentreRows}
 use Rattle.bilateral.specs.declared.rows.TheConstants.{SLOT_LIMIT}
 use Rattle.transfer_sets.specs.declared.looks.TheConstants.{LOOK_LIMIT}
@@ -274,6 +274,19 @@ module _ (rows : CentreRows) (peer : ℕ) (plant : Plant) (from to : ℕ) (old :
         (own-undue updates tables view first_shown s slot (Tick from to) a.ordinal none))
         (t.each k d there);
   }
+
+  -- so many of which nothing is due
+  pub IsTickDrafted-undues : (slot : ℕ) (now : Peer) → slot ≤ first_shown.table.table.slots
+      → ((s : ℕ) → s < slot → conditions_by (Tick from to) s (slot_at old.slots s).state ≡ 0)
+      → IsTickDrafted rows peer plant from to 0 old now
+      → IsTickDrafted rows peer plant from to slot old now
+  IsTickDrafted-undues zero now within none t = t
+  IsTickDrafted-undues (suc n) now within none t =
+      let next : n + 1 ≡ suc n = omega arith in
+      subst (λ (slot : ℕ). IsTickDrafted rows peer plant from to slot old now) next
+      (IsTickDrafted-undue n now (omega (arith, within)) (none n (omega arith))
+      (IsTickDrafted-undues n now (omega (arith, within))
+      (λ s below. none s (omega (arith, below))) t))
 
   -- one more that was drafted
   pub IsTickDrafted-due : (slot : ℕ) (now next : Peer) → slot < first_shown.table.table.slots

@@ -11,8 +11,8 @@ ghost use Rattle.node_core.specs.SlotFeeds.{reported_on};
 
 use bilateral::SLOT_LIMIT;
 use transfer_sets::{
-    DueIndex, INTEGRITY, Looks, OPERATOR, SlotBank, due_indexes_turn, due_is_one_number,
-    next_moments_last,
+    DueIndex, INTEGRITY, Looks, OPERATOR, SlotBank, due_indexes_last, due_indexes_turn,
+    due_is_one_number, next_moments_last,
 };
 
 /// What makes reports of transfer sets. Moments are in milliseconds since 1970.
@@ -126,7 +126,11 @@ pub fn report_due(bank: &mut SlotBank, advance: Advance, dues: &mut DueIndex, lo
 {
     due_is_one_number();
     next_moments_last();
+    due_indexes_last();
     due_indexes_turn();
+    if !dues.may_have_come(advance.to) {
+        return;
+    }
     for slot in 0..SLOT_LIMIT as u32 {
         if dues.has_come(slot, advance.to) {
             looks.add();
@@ -134,6 +138,7 @@ pub fn report_due(bank: &mut SlotBank, advance: Advance, dues: &mut DueIndex, lo
             dues.set(slot, bank.next_due(slot, advance.to));
         }
     }
+    dues.settle();
 }
 
 /// Notes that the reports of a tick have told all changes of a transfer set, where it makes one.

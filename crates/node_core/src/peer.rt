@@ -290,6 +290,9 @@ impl Peer {
             let timeouts = self.timeouts(alloc, centre, number, plant, place, advance.to)?;
             self.associations.draft(place, timeouts)?;
         }
+        if !index.dues.may_have_come(advance.to) {
+            return Ok(());
+        }
         for slot in 0..self.slot_count(centre, number) {
             if index.dues.has_come(slot, advance.to) {
                 looks.add();

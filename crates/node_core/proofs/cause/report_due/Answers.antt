@@ -5,6 +5,7 @@ use Rattle.transfer_sets.specs.Due.{conditions_due}
 use Rattle.transfer_sets.specs.DueIndex.{next_at}
 use Rattle.transfer_sets.specs.NextDue.{IsNextMoment}
 use Rattle.node_core.proofs.SlotFeeds.{none_reported, all_reported, due_from-all, one_ahead}
+use Rattle.node_core.proofs.SlotFeeds.{none_reported_on}
 use Rattle.node_core.proofs.SlotFeeds.{IsTicking-due, IsTicking-undue}
 use Rattle.node_core.proofs.cause.report_due.Goals as goal
 use Rattle.node_core.proofs.cause.report_due.Goals.{then-has_come, else-has_come}
@@ -57,6 +58,28 @@ loop-slot-preserved c =
           (one_ahead index to n (sym c.has_come.ensures ∙ w.if-has_come.false)) t.dues))
     ]
 
+pub returns-then-not-may_have_come-clause-reported :
+    goal.returns-then-not-may_have_come-clause-reported
+returns-then-not-may_have_come-clause-reported c =
+    let from = c.args.advance.from in
+    let to = c.args.advance.to in
+    let bank = c.args.bank.now in
+    let dues = c.requires.dues in
+    none_reported_on from to bank (λ s below.
+    let state = (slot_at bank s).state in
+    let many = dues.many in
+    c.next_moments_last.ensures.due state from to (conditions_due state from to)
+    (next_at c.args.dues.now s) c.requires.forward.0 c.requires.forward.1 (dues.each s below)
+    (c.due_is_one_number.ensures.some state from to)
+    ∙ c.may_have_come.ensures c.if-not-may_have_come.true s (omega arith)
+    (omega (arith, below, many)))
+
+pub returns-then-not-may_have_come-clause-dues : goal.returns-then-not-may_have_come-clause-dues
+returns-then-not-may_have_come-clause-dues c =
+    c.due_indexes_last.ensures.later c.args.bank.now c.args.advance.from c.args.advance.to
+    c.args.dues.now (omega (arith, c.requires.forward.0))
+    (c.may_have_come.ensures c.if-not-may_have_come.true) c.requires.dues
+
 pub returns-clause-reported : goal.returns-clause-reported
 returns-clause-reported c =
     all_reported _ _ _ _ (omega (arith, c.loop-slot-test.false, c.requires.many))
@@ -65,7 +88,8 @@ returns-clause-reported c =
 pub returns-clause-dues : goal.returns-clause-dues
 returns-clause-dues c =
     let t = c.loop-slot.invariant in
-    c.due_indexes_turn.ensures.end c.loop-slot.bank c.loop-slot.slot c.args.advance.from
+    rw c.settle.ensures
+    (c.due_indexes_turn.ensures.end c.loop-slot.bank c.loop-slot.slot c.args.advance.from
     c.args.advance.to c.loop-slot.dues (omega (arith, c.requires.forward.0))
     (λ s after below. absurd (omega (
       arith,
@@ -75,7 +99,7 @@ returns-clause-dues c =
       t.dues.many,
       t.reported.many,
       c.requires.many,
-    ))) t.dues
+    ))) t.dues)
 
 pub returns-clause-looks : goal.returns-clause-looks
 returns-clause-looks c = let few = c.loop-slot.invariant.few in omega (arith, few)

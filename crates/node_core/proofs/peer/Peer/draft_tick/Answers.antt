@@ -4,11 +4,13 @@ use Rattle.transfer_sets.specs.Banks.{OwnedSlot, slot_at}
 use Rattle.transfer_sets.specs.Due.{conditions_due}
 use Rattle.transfer_sets.specs.DueIndex.{next_at, IsDueIndex}
 use Rattle.node_core.specs.declared.peer.Peer.{Peer}
-use Rattle.node_core.specs.Found.{table_at}
+use Rattle.node_core.specs.Found.{table_at, IsThere}
 use Rattle.node_core.specs.SlotFeeds.{due_count}
-use Rattle.node_core.proofs.SlotFeeds.{due_from-all, due-looked}
+use Rattle.node_core.proofs.Known.{variant_is_lawful}
+use Rattle.node_core.proofs.SlotFeeds.{due_from-all, due-looked, none_due}
 use Rattle.node_core.proofs.PartLists.{FirstDrafted-many, FirstDrafted-step, IsAlike-drafts}
 use Rattle.node_core.proofs.TickDrafts.{IsTickDrafted-start, IsTickDrafted-all}
+use Rattle.node_core.proofs.TickDrafts.{IsTickDrafted-undues}
 use Rattle.node_core.proofs.TickDrafts.{IsDraftingTick-due, IsDraftingTick-undue}
 use Rattle.node_core.proofs.peer.Peer.draft_tick.Goals as goal
 use Rattle.node_core.proofs.peer.Peer.draft_tick.Goals.{then-has_come+in_ok-draft_slot}
@@ -72,6 +74,41 @@ loop-slot-preserved c =
           IsDraftingTick-undue _ _ _ _ _ _ _ _ _ _ c.loop-slot.invariant below (within before) _ _
           (come before ∙ w.if-has_come.false) w.self-is w.looks-is
     ]
+
+-- no moment of the index has come, so that nothing is due of any transfer set
+pub returns-then-not-may_have_come-clause-ok : goal.returns-then-not-may_have_come-clause-ok
+returns-then-not-may_have_come-clause-ok c =
+    let from = c.args.advance.from in
+    let to = c.args.advance.to in
+    let now = c.loop-place.self in
+    let f = c.loop-place.invariant in
+    let many = FirstDrafted-many _ _ _ _ _ _ _ f in
+    let shown = c.requires.shown in
+    let count = (table_at c.args.centre.now c.args.number now.variant).table.slots in
+    let same : now.slots ≡ c.args.self.now.slots = ap (λ (p : Peer). p.slots) f.same in
+    let dues = subst (λ (l : List OwnedSlot). IsDueIndex l from c.args.index.now.dues) (sym same)
+    c.requires.dues in
+    let all = dues.many in
+    let here : length now.slots ≡ SLOT_LIMIT =
+    ap (λ (l : List OwnedSlot). length l) same ∙ shown.slots in
+    let there = subst (λ (p : Peer). IsThere c.args.centre.now c.args.number p.variant) (sym f.same)
+    c.requires.there in
+    let few = (variant_is_lawful c.args.centre.now c.args.number now.variant there).slots in
+    IsTickDrafted-all c.args.centre.now c.args.number c.args.plant.now from to now count now
+    (omega arith)
+    (IsTickDrafted-undues c.args.centre.now c.args.number c.args.plant.now from to now count now
+    (omega arith)
+    (λ s below.
+    let state = (slot_at now.slots s).state in
+    none_due (conditions_due state from to)
+    (c.next_moments_last.ensures.due state from to (conditions_due state from to)
+    (next_at c.args.index.now.dues s) c.requires.forward.0 c.requires.forward.1
+    (dues.each s (omega (arith, below, few, here)))
+    (c.due_is_one_number.ensures.some state from to)
+    ∙ c.may_have_come.ensures c.if-not-may_have_come.true s (omega arith)
+    (omega (arith, below, few, here, all))))
+    (IsTickDrafted-start _ _ _ _ _ _ _ _ f
+    (omega (arith, many, c.loop-place-test.false, c.len-place-end.ensures))))
 
 pub returns-in_err-draft_slot-clause-looks : goal.returns-in_err-draft_slot-clause-looks
 returns-in_err-draft_slot-clause-looks c =
