@@ -2,3 +2,8 @@ pub mod LinkUses
 pub mod GivenItems
 pub mod Receiving
 pub mod Sending
+pub mod ServedLinks
+pub mod FullEnds
+pub mod Turns
+pub mod Leaving
+pub mod Turning
