@@ -13,33 +13,45 @@ use Rattle.server_jobs.specs.contracts.parts.JobParts as parts
 use Rattle.server_jobs.specs.contracts.job.NodeJob as job
 use Rattle.server_jobs.specs.contracts.job.NodeJob.TheInside as inside
 
-module _ (S C : RattleType) (source : IsSend S) (clock : IsSend C) where
-  parts_send : IsSend (parts.the_row S C)
-  parts_send = variants_send (parts.enum S C) (
+module _ (L S C : RattleType) (link : IsSend L) (source : IsSend S) (clock : IsSend C) where
+  parts_send : IsSend (parts.the_row L S C)
+  parts_send = variants_send (parts.enum L S C) (
     (
       search (centre.the_send, centre.the_sync, sendable, crosses) depth 20,
       (
         search (turn_send, shared.the_send, shared.the_sync, sendable, crosses) depth 20,
         (
           search (turn_send, seat.the_send, sendable, crosses) depth 20,
-          (as_row_send (row_field S) source, (search (sendable, crosses) depth 20, tt)),
+          (as_row_send (row_field L) link, (search (sendable, crosses) depth 20, tt)),
         ),
       ),
     ),
     (
       (
-        search (turn_send, shared.the_send, shared.the_sync, sendable, crosses) depth 20,
+        search (centre.the_send, centre.the_sync, sendable, crosses) depth 20,
         (
-          search (turn_send, seat.the_send, sendable, crosses) depth 20,
-          (as_row_send (row_field C) clock, (search (sendable, crosses) depth 20, tt)),
+          search (turn_send, shared.the_send, shared.the_sync, sendable, crosses) depth 20,
+          (
+            search (turn_send, seat.the_send, sendable, crosses) depth 20,
+            (as_row_send (row_field S) source, (search (sendable, crosses) depth 20, tt)),
+          ),
         ),
       ),
-      tt,
+      (
+        (
+          search (turn_send, shared.the_send, shared.the_sync, sendable, crosses) depth 20,
+          (
+            search (turn_send, seat.the_send, sendable, crosses) depth 20,
+            (as_row_send (row_field C) clock, (search (sendable, crosses) depth 20, tt)),
+          ),
+        ),
+        tt,
+      ),
     ),
   )
 
-  inside_send : IsSend (inside.the_row S C)
-  inside_send = declared_send (inside.the_type S C) (parts_send, tt)
+  inside_send : IsSend (inside.the_row L S C)
+  inside_send = declared_send (inside.the_type L S C) (parts_send, tt)
 
-  pub job_send : IsSend (job.the_row S C)
+  pub job_send : IsSend (job.the_row L S C)
   job_send = search (inside_send, sendable)

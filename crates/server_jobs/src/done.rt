@@ -2,10 +2,17 @@
 use node_server::{FeedEnd, TickEnd};
 use node_turn::TurnNode;
 use share_turn::Seat;
+use tase_conn::ConnEnd;
 
 /// What comes of a job: its seat, what it read, and how it ended.
 #[derive(Drop)]
-pub enum NodeDone<S, C> {
+pub enum NodeDone<L, S, C> {
+    /// A link was served.
+    Conn {
+        seat: Seat<TurnNode>,
+        link: L,
+        end: ConnEnd,
+    },
     /// The feed was told.
     Feed {
         seat: Seat<TurnNode>,

@@ -4,25 +4,27 @@ ghost use Rattle.server_jobs.specs.Running.{MayRunJob, MayComeOfJob};
 
 use crate::done::NodeDone;
 use crate::parts::JobParts;
+use link_service::serve_connection;
 use node_server::{feed_node, tick_node};
 use outside::Source;
-use outside_links::{Clock, Job};
+use outside_links::{Clock, Job, Link};
 use std::marker::Model;
 use std::sync::Wait;
 
-/// A job that may be run: its seat is one of its shared node, and its centre is that node's.
+/// A job that may be run: its seat is one of its shared node, and its centre is that node's. The
+/// seat of a connection has taken no event yet.
 #[derive(Drop)]
-pub struct NodeJob<S, C> {
-    parts: JobParts<S, C>,
+pub struct NodeJob<L, S, C> {
+    parts: JobParts<L, S, C>,
 }
 
-impl<S, C> Model for NodeJob<S, C> {
+impl<L, S, C> Model for NodeJob<L, S, C> {
     ghost use Rattle.std.specs.Coded.{codes};
     ghost use Rattle.mms_data.specs.contracts.data.MmsData as datum;
     ghost use Rattle.server_jobs.specs.declared.parts.JobParts.{JobParts};
     ghost use Rattle.server_jobs.specs.Running.{MayRunJob};
 
-    ghost Value = { JobParts S C };
+    ghost Value = { JobParts L S C };
 
     ghost coded = { Prim.hlevel (codes, datum.the_row.coded) };
 
@@ -31,9 +33,9 @@ impl<S, C> Model for NodeJob<S, C> {
     ghost invariant = { λ j. MayRunJob j.parts };
 }
 
-impl<S, C> NodeJob<S, C> {
+impl<L, S, C> NodeJob<L, S, C> {
     /// The job that is made of these parts.
-    pub fn new(parts: JobParts<S, C>) -> NodeJob<S, C>
+    pub fn new(parts: JobParts<L, S, C>) -> NodeJob<L, S, C>
         requires { MayRunJob parts }
         ensures { result ≡ parts }
     {
@@ -41,7 +43,7 @@ impl<S, C> NodeJob<S, C> {
     }
 
     /// The parts of a job that wasn't run.
-    pub fn into_parts(self) -> JobParts<S, C>
+    pub fn into_parts(self) -> JobParts<L, S, C>
         ensures parts { result ≡ self }
         ensures may { MayRunJob result }
     {
@@ -49,15 +51,25 @@ impl<S, C> NodeJob<S, C> {
     }
 }
 
-impl<S: Source, C: Clock> Job for NodeJob<S, C> {
+impl<L: Link, S: Source, C: Clock> Job for NodeJob<L, S, C> {
     ghost use Rattle.server_jobs.specs.Running.{MayComeOfJob};
 
-    type Done = NodeDone<S, C>;
+    type Done = NodeDone<L, S, C>;
 
-    ghost may_give = { MayComeOfJob S.told C.told };
+    ghost may_give = { MayComeOfJob L.told S.told C.told };
 
-    fn run<R: Wait>(self, rt: &R) -> NodeDone<S, C> {
+    fn run<R: Wait>(self, rt: &R) -> NodeDone<L, S, C> {
         match self.into_parts() {
+            JobParts::Conn {
+                centre,
+                shared,
+                mut seat,
+                mut link,
+                alloc,
+            } => {
+                let end = serve_connection(rt, alloc, &centre, &shared, &mut seat, &mut link);
+                NodeDone::Conn { seat, link, end }
+            }
             JobParts::Feed {
                 centre,
                 shared,
@@ -81,9 +93,9 @@ impl<S: Source, C: Clock> Job for NodeJob<S, C> {
     }
 }
 
-/// A job whose source and clock may go to another thread may go there too: this compiles. It gives
-/// the job back.
-pub fn job_may_be_sent<S: Send, C: Send>(job: NodeJob<S, C>) -> NodeJob<S, C>
+/// A job whose link, source and clock may go to another thread may go there too: this compiles. It
+/// gives the job back.
+pub fn job_may_be_sent<L: Send, S: Send, C: Send>(job: NodeJob<L, S, C>) -> NodeJob<L, S, C>
     ensures { result ≡ job }
 {
     sent_over(job)

@@ -7,7 +7,15 @@ use std::sync::Arc;
 
 /// What a job is made of: the shared node, a seat of it, and what the job reads.
 #[derive(Drop)]
-pub enum JobParts<S, C> {
+pub enum JobParts<L, S, C> {
+    /// A link, whose connection is one with the node of this centre.
+    Conn {
+        centre: Arc<Centre>,
+        shared: Arc<Shared<TurnNode>>,
+        seat: Seat<TurnNode>,
+        link: L,
+        alloc: Global,
+    },
     /// A feed, which is told to the node of this centre.
     Feed {
         centre: Arc<Centre>,
