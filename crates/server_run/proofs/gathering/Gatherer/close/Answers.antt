@@ -1,0 +1,12 @@
+use Rattle.node_turn.specs.Logged.{turn_log}
+use Rattle.server_run.proofs.Joined.{closes-over}
+use Rattle.server_run.proofs.gathering.Gatherer.close.Goals as goal
+
+pub returns-clause-over : goal.returns-clause-over
+returns-clause-over g c = λ own claims none gathers.
+    closes-over c.args.self.now.shared.now own c.args.seat claims
+    (turn_log c.close-node.result.node.history) none gathers (record {
+      keeps = c.close-node.ensures.all;
+      differ = c.close-node.ensures.differ;
+      no_other = c.close-node.ensures.no_other;
+    })
