@@ -1,5 +1,5 @@
 -- What came of a job, by what was started.
-use Rattle.std.proofs.Common.{◌≡◌, ℕ, List, [], ◌∷◌, refl, ap, sym, ◌∙◌, subst, drop}
+use Rattle.std.proofs.Common.{◌≡◌, List, refl, ap, sym, ◌∙◌, subst, drop}
 use Rattle.std.proofs.Common.{Option, Some, None}
 use Rattle.std.specs.Arc.{arc_value}
 use Rattle.outside.specs.Source.{SourceTold}
@@ -21,7 +21,7 @@ use Rattle.server_jobs.specs.declared.done.NodeDone.TheVariants as dones
 use Rattle.server_run.specs.declared.seats.FeedSeat.{FeedSeat}
 use Rattle.server_run.specs.declared.seats.TickSeat.{TickSeat}
 use Rattle.server_run.specs.Gathering.{SharedNode, FirstIs, HasFreshSeat, IsFeedJob, IsTicksJob}
-use Rattle.server_run.specs.Gathering.{IsLinkJob, MayJoin, IsFeedDone, IsTicksDone, IsLinkDone}
+use Rattle.server_run.specs.Gathering.{MayJoin, IsFeedDone, IsTicksDone}
 use Rattle.server_run.specs.Gathering.{TakesFeed, TakesTicks, FinishesFeed, FinishesTicks}
 use Rattle.server_run.specs.Gathering.{FeedStarted, TicksStarted}
 

@@ -1,6 +1,6 @@
 -- Links that are finished, one after another.
-use Rattle.std.proofs.Common.{◌≡◌, ℕ, suc, ◌+◌, ◌<◌, ◌≤◌, List, [], ◌∷◌, ◌++◌, length, refl, ap}
-use Rattle.std.proofs.Common.{sym, ◌∙◌, subst, append_assoc, arith, add-one, Option, Some, None}
+use Rattle.std.proofs.Common.{◌≡◌, ℕ, suc, ◌+◌, List, [], ◌∷◌, ◌++◌, length, refl, ap}
+use Rattle.std.proofs.Common.{sym, ◌∙◌, subst, append_assoc, arith, Option, Some, None}
 use Rattle.std.proofs.lemmas.List.{append-nil, length-append}
 use Rattle.std.specs.Option.{option_map}
 use Rattle.std.specs.Arc.{arc_value}
@@ -21,9 +21,9 @@ use Rattle.server_jobs.specs.declared.parts.JobParts.TheVariants as parts
 use Rattle.server_jobs.specs.declared.done.NodeDone.{NodeDone}
 use Rattle.server_jobs.specs.declared.done.NodeDone.TheVariants as dones
 use Rattle.server_run.specs.declared.seats.LinkSeat.{LinkSeat}
-use Rattle.server_run.specs.Retiring.{AreOut, LinksNoted, with_all_retired}
+use Rattle.server_run.specs.Retiring.{AreOut, with_all_retired}
 use Rattle.server_run.specs.Gathering.{SharedNode, IsLinkJob, IsLinkDone, TakesLink, Gathering}
-use Rattle.server_run.specs.Gathering.{FinishesLinks, gathering, ServedLink, HasServed, laters_of}
+use Rattle.server_run.specs.Gathering.{FinishesLinks, ServedLink, HasServed, laters_of}
 use Rattle.server_run.specs.Gathering.{claims_of, noted_of}
 use Rattle.server_run.proofs.Joined.{gathers-none, gathers-then}
 use Rattle.server_run.proofs.Came.{may-join, same-number}

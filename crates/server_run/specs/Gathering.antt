@@ -252,3 +252,49 @@ pub record ClosesOver (claims : List SeatClaim) (log : NodeLog) : Type 0 where
   pub keeps : Each (Keeps log) claims
   pub differ : AllDiffer claims
   pub no_other : Each (λ entry. Claims claims entry.0) log
+
+-- ---- all of it
+
+-- what a feed's job came to: what was given, what was handed back, and the seat, where it ran
+pub record FeedRun : Type 0 where
+  pub given : SourceTold
+  pub left : SourceTold
+  pub fed : Option FeedSeat
+
+-- what a clock's job came to
+pub record TicksRun : Type 0 where
+  pub given : ClockTold
+  pub left : ClockTold
+  pub ticked : Option TickSeat
+
+-- the own seat gathered the feed's job, then the clock's, then those of links
+pub record GathersJobs (node : SharedNode) (own after : NodeSeat) (feed : FeedRun)
+    (ticks : TicksRun) (served : List ServedLink) : Type 0 where
+  pub second : NodeSeat
+  pub third : NodeSeat
+  pub feed_is : FeedGathered node own second feed.given feed.left feed.fed
+  pub ticks_are : TicksGathered node second third ticks.given ticks.left ticks.ticked
+  pub links_are : Gathers node third after (claims_of served)
+
+-- where the feed ran, this was done under its number; else its source is as it was
+abbrev pub FeedClaims : NodeSetup → SourceTold → SourceTold → Option FeedSeat → List SeatClaim
+    → Type 0
+FeedClaims setup given left None claims = (left ≡ given) × (claims ≡ [])
+FeedClaims setup given left (Some fed) claims =
+    (claim : SeatClaim) × HasFed setup given left fed claim × (claims ≡ claim ∷ [])
+
+-- where the clock was told, this was done under its number; else it is as it was
+abbrev pub TicksClaims : NodeSetup → ClockTold → ClockTold → Option TickSeat → List SeatClaim
+    → Type 0
+TicksClaims setup given left None claims = (left ≡ given) × (claims ≡ [])
+TicksClaims setup given left (Some ticked) claims =
+    (claim : SeatClaim) × HasTicked setup given left ticked claim × (claims ≡ claim ∷ [])
+
+-- all numbers that the own seat claims then, each with what was done under it
+pub record ClaimsJobs (node : SharedNode) (own after : NodeSeat) (feed : FeedRun)
+    (ticks : TicksRun) (served : List ServedLink) : Type 0 where
+  pub of_feed : List SeatClaim
+  pub of_ticks : List SeatClaim
+  pub fed : FeedClaims node.setup feed.given feed.left feed.fed of_feed
+  pub ticked : TicksClaims node.setup ticks.given ticks.left ticks.ticked of_ticks
+  pub gathers : Gathers node own after (claims_of served ++ (of_ticks ++ of_feed))

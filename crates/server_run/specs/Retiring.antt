@@ -1,5 +1,5 @@
 -- Links that are out, and the seats that are noted of those retired.
-use Rattle.std.specs.Prelude.{◌≡◌, ℕ, ◌+◌, ◌≤◌, List, ◌++◌, length, Option, option_map, IfSome}
+use Rattle.std.specs.Prelude.{ℕ, ◌+◌, ◌≤◌, List, ◌++◌, length, Option, option_map, IfSome}
 use Rattle.outside_links.specs.Links.{LinkTold}
 use Rattle.outside_links.specs.Listeners.{ListenerTold}
 use Rattle.server_run.specs.declared.seats.LinkSeat.{LinkSeat}

@@ -2,7 +2,9 @@
 #![tactic(auto)]
 
 mod gathering;
+mod laws;
 mod seats;
 
 pub use gathering::Gatherer;
+pub use laws::jobs_are_claimed;
 pub use seats::{FeedSeat, LinkSeat, LinkSeats, Seats, TickSeat};

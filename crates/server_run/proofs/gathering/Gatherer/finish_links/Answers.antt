@@ -1,4 +1,4 @@
-use Rattle.std.proofs.Common.{arith, refl}
+use Rattle.std.proofs.Common.{arith}
 use Rattle.server_run.specs.Gathering.{gathering}
 use Rattle.server_run.proofs.LinksDone.{jobs-left, out-left, same-left, pending-more, takes-of}
 use Rattle.server_run.proofs.LinksDone.{goes-on, all-done}
