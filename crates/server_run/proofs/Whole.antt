@@ -1,5 +1,5 @@
 -- All jobs that were gathered.
-use Rattle.std.proofs.Common.{◌≡◌, List, [], ◌∷◌, ◌++◌, refl, sym, subst, append_assoc, Option}
+use Rattle.std.proofs.Common.{◌≡◌, List, [], ◌∷◌, ◌++◌, refl, sym, subst, Option}
 use Rattle.std.proofs.Common.{Some, None}
 use Rattle.outside.specs.Source.{SourceTold}
 use Rattle.outside_links.specs.Clocks.{ClockTold}
