@@ -5,7 +5,8 @@ use Rattle.std.specs.Prelude.{flat_map}
 use Rattle.std.proofs.lemmas.List.{append-nil, take_more, take-append-drop}
 use Rattle.std.proofs.lemmas.Grind.{flat_map-append}
 use Rattle.outside.specs.Sink.{SinkTold, AppendsAll, AppendsPart}
-use Rattle.outside.proofs.Writing.{Appends-as, Appends-append, AppendsPart-append, AppendsPart-front}
+use Rattle.outside.proofs.Writing.{Appends-as, Appends-append, AppendsPart-append}
+use Rattle.outside.proofs.Writing.{AppendsPart-front}
 
 module _ {X : Type 0} (f : X → List ℕ) (xs : List X) (i : ℕ) (d : X) (below : i < length xs) where
   with_next : flat_map f (take i xs) ++ f (get_or xs i d) ≡ flat_map f (take (i + 1) xs)
@@ -27,7 +28,8 @@ module _ {X : Type 0} (f : X → List ℕ) (xs : List X) (i : ℕ) (d : X) (belo
   one_more before mid after first next =
       Appends-as before after (flat_map f (take i xs) ++ f (get_or xs i d))
       (flat_map f (take (i + 1) xs)) false with_next
-      (Appends-append before mid after (flat_map f (take i xs)) (f (get_or xs i d)) false first next)
+      (Appends-append before mid after (flat_map f (take i xs)) (f (get_or xs i d)) false first
+      next)
 
   -- the writing of one more item fails
   pub breaks_off : (before mid after : SinkTold)

@@ -1,5 +1,5 @@
 -- The names of devices stand for themselves in escaped text.
-use Rattle.std.proofs.Common.{◌≡◌, ℕ, zero, suc, Bool, true, false, ◌||◌, ◌==◌, cond, List, [], ◌∷◌}
+use Rattle.std.proofs.Common.{◌≡◌, ℕ, zero, suc, true, false, ◌||◌, ◌==◌, List, [], ◌∷◌}
 use Rattle.std.proofs.Common.{◌++◌, ℤ, All, refl, ap, sym, ◌∙◌, arith}
 use Rattle.std.proofs.lemmas.Bool.{cond-true}
 use Rattle.std.specs.Prelude.{slice_index_or}
@@ -10,8 +10,7 @@ use Rattle.std.proofs.lemmas.Bool.{false≢true, and_parts}
 use Rattle.std.proofs.lemmas.Bool.Decides.{nat_tests}
 use Rattle.std.proofs.lemmas.List.Elements.{All-head, All-tail}
 use Rattle.plain_text.specs.Escaped.{is_plain, escaped_octet, escaped_text}
-use Rattle.plain_text.specs.Octets.{hex_pair}
-use Rattle.table_words.specs.Words.{is_name, is_plain_name}
+use Rattle.table_words.specs.Words.{is_plain_name}
 use Rattle.bilateral.specs.declared.rows.DeviceRow.{DeviceRow}
 use Rattle.bilateral.specs.Rows.{CentreRows, IsDevice, IsCentre, no_device, device_of}
 use Rattle.order_text.specs.PlantLines.{order_text}
@@ -51,7 +50,8 @@ rows_escaped : (rows : List DeviceRow) → All IsDevice rows → (device : ℕ)
 rows_escaped [] each device = refl
 rows_escaped (row ∷ rows) each zero =
     escaped_plain_name row.name (and_parts _ _ (All-head IsDevice row rows each).named).0
-rows_escaped (row ∷ rows) each (suc device) = rows_escaped rows (All-tail IsDevice row rows each) device
+rows_escaped (row ∷ rows) each (suc device) =
+    rows_escaped rows (All-tail IsDevice row rows each) device
 
 -- the name of a device is its own escaped text
 pub device_escaped : (rows : CentreRows) (device : ℕ) → IsCentre rows

@@ -1,4 +1,4 @@
-use Rattle.std.proofs.Common.{flat_map, take, true, false}
+use Rattle.std.proofs.Common.{flat_map, take}
 use Rattle.outside.specs.Sink.{AppendsAll}
 use Rattle.order_text.specs.PlantLines.{plant_line}
 use Rattle.order_text.proofs.plant_line.write_orders.Given as goal
