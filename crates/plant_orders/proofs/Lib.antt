@@ -1,0 +1,4 @@
+mod OrdersRefused
+mod Given
+mod Alone
+mod Told
