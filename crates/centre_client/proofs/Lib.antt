@@ -3,6 +3,8 @@ pub mod Spelled
 pub mod Playable
 pub mod PlayedOn
 pub mod HeardSteps
+pub mod Guarded
+pub mod Numbering
 pub mod ShortRequests
 pub mod DeviceRequests
 mod Worked

@@ -5,3 +5,4 @@ pub mod Plays
 pub mod Sayings
 pub mod Hearings
 pub mod Clients
+pub mod Guards

@@ -1,5 +1,5 @@
 //! What holds of every script that is played.
-ghost use Rattle.std.specs.Prelude.{◌≡◌, ℕ, Option, Some, None, List};
+ghost use Rattle.std.specs.Prelude.{◌≡◌, ℕ, ◌+◌, ◌<◌, Option, Some, None, List};
 ghost use Rattle.tpkt_cotp.specs.declared.turn.Role.TheVariants.{Calling};
 ghost use Rattle.tpkt_cotp.specs.Streams.{Message};
 ghost use Rattle.stack_messages.specs.declared.fault.StackFault.{StackFault};
@@ -14,7 +14,12 @@ ghost use Rattle.centre_client.specs.Scripts.{IsScript};
 ghost use Rattle.centre_client.specs.Clients.{ClientStep, HasHeard, client_behind, step_then};
 ghost use Rattle.centre_client.specs.Clients.{broken_step};
 ghost use Rattle.centre_client.specs.Plays.{Playing, IsPlay, at_call, begun, reply_heeded};
-ghost use Rattle.centre_client.specs.Plays.{report_heeded, concluded_for};
+ghost use Rattle.centre_client.specs.Plays.{report_heeded, concluded_for, request_behind};
+ghost use Rattle.centre_client.specs.declared.steps.TheConstants.{LAST_INVOKE};
+ghost use Rattle.centre_client.specs.Guards.{AwaitsWrite, IsCheckedBack, IsNumbered};
+ghost use Rattle.centre_client.specs.Hearings.{input_heeded};
+ghost use Rattle.centre_client.specs.declared.play.ClientMove.TheVariants.{Say};
+ghost use Rattle.stack_assoc.specs.declared.input.StackIn.{StackIn as AnyInput};
 
 /// A script that was read may be played, and whatever is heard, it may be played on.
 pub fn scripts_may_be_played()
@@ -45,4 +50,20 @@ pub fn octets_make_a_client()
         → HasHeard rows script told step → step.state.end ≡ Some end
         → StartsWith Calling octets messages → Tell step.state.role told messages
         → client_behind rows script octets ≡ step }
+{}
+
+/// The value of a device that isn't direct is written only when the reply to its select was heard,
+/// whose one outcome is the table's checkback.
+pub fn writes_are_checked_back()
+    ensures { (rows : AnyRows) (input : AnyInput) (p : Playing)
+        → (input_heeded rows input p).1 ≡ Say → AwaitsWrite rows (input_heeded rows input p).0
+        → IsCheckedBack rows input p (input_heeded rows input p).0 }
+{}
+
+/// The requests that are said have the numbers 1, 2, 3 and so on: until 2,147,483,647 none has one
+/// that another had.
+pub fn requests_are_numbered()
+    ensures next { (rows : AnyRows) (input : AnyInput) (p : Playing)
+        → IsNumbered (input_heeded rows input p).1 p (input_heeded rows input p).0 }
+    ensures rises { (number : ℕ) → number < LAST_INVOKE → request_behind number ≡ number + 1 }
 {}

@@ -14,7 +14,9 @@ mod steps;
 
 pub use end::ClientEnd;
 pub use fault::{ScriptFault, ScriptWhy};
-pub use laws::{octets_make_a_client, scripts_may_be_played};
+pub use laws::{
+    octets_make_a_client, requests_are_numbered, scripts_may_be_played, writes_are_checked_back,
+};
 pub use play::{Awaiting, ClientMove, Play};
 pub use script::{Script, Step, StepKind, Steps, read_script};
 pub use steps::{LAST_INVOKE, REQUEST_LIMIT, WAIT_LIMIT};
