@@ -49,7 +49,7 @@ use Rattle.centre_client.specs.Clients.{HasHeard}
 
 -- ---- what was heard
 
-moved-told : (rows : CentreRows) (p : Playing) (m : ClientMove) (s : ClientState)
+pub moved-told : (rows : CentreRows) (p : Playing) (m : ClientMove) (s : ClientState)
     → (moved rows p m s).state.told ≡ s.told
 moved-told rows p moves.Wait s = refl
 moved-told rows p moves.Say s = refl
@@ -225,30 +225,30 @@ arrival_broken role before m f h = absurd h
 
 -- ---- messages in a row
 
-abbrev with_step : ClientStep → ClientStep → ClientStep
+abbrev pub with_step : ClientStep → ClientStep → ClientStep
 with_step r z =
     record { state = z.state; said = r.said ++ z.said; shown = r.shown ++ z.shown }
 
-abbrev a_step : ClientState → List ℕ → List ℕ → ClientStep
+abbrev pub a_step : ClientState → List ℕ → List ℕ → ClientStep
 a_step state said shown = record { state = state; said = said; shown = shown }
 
-joined : (r q z : ClientStep) → with_step r (with_step q z) ≡ with_step (with_step r q) z
+pub joined : (r q z : ClientStep) → with_step r (with_step q z) ≡ with_step (with_step r q) z
 joined r q z =
     ap (λ (said : List ℕ). a_step z.state said (r.shown ++ (q.shown ++ z.shown)))
     (sym (append_assoc r.said q.said z.said))
     ∙ ap (λ (shown : List ℕ). a_step z.state ((r.said ++ q.said) ++ z.said) shown)
     (sym (append_assoc r.shown q.shown z.shown))
 
-then_silent : (r : ClientStep) (z : ClientStep) → z ≡ silent r.state → with_step r z ≡ r
+pub then_silent : (r : ClientStep) (z : ClientStep) → z ≡ silent r.state → with_step r z ≡ r
 then_silent r z e =
     ap (with_step r) e
     ∙ ap (λ (said : List ℕ). a_step r.state said (r.shown ++ [])) (append-nil r.said)
     ∙ ap (λ (shown : List ℕ). a_step r.state r.said shown) (append-nil r.shown)
 
-not_longer : (told : List Arrival) (t : Arrival) (ts : List Arrival) → told ≡ told ++ t ∷ ts → ⊥
+pub not_longer : (told : List Arrival) (t : Arrival) (ts : List Arrival) → told ≡ told ++ t ∷ ts → ⊥
 not_longer told t ts e = absurd (omega (arith, ap length e, length-append told (t ∷ ts)))
 
-opened : (s : ClientState) (end : Option ClientEnd) (x y : ClientStep)
+pub opened : (s : ClientState) (end : Option ClientEnd) (x y : ClientStep)
     (next : ClientState → ClientStep) (all : List Arrival)
     → (unless_ended end s y).state.told ≡ all → (s.told ≡ all → ⊥)
     → (end ≡ None → x ≡ step_then y next)
@@ -386,7 +386,7 @@ front_over rows script octets told step messages h s tell =
           ∙ heard_front rows script told step (broken_at_end end) messages all.0 h tell,
     )
 
-unless_open : (s : ClientState) (end : Option ClientEnd) (r : ClientStep) → end ≡ None
+pub unless_open : (s : ClientState) (end : Option ClientEnd) (r : ClientStep) → end ≡ None
     → unless_ended end s r ≡ r
 unless_open s None r e = refl
 unless_open s (Some end) r e = absurd cc

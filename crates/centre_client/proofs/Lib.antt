@@ -7,5 +7,9 @@ pub mod Guarded
 pub mod Numbering
 pub mod ShortRequests
 pub mod DeviceRequests
+pub mod StepsOn
+pub mod Standing
+pub mod Callers
+pub mod Turned
 mod Worked
 mod WorkedClients

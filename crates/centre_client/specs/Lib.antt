@@ -5,4 +5,5 @@ pub mod Plays
 pub mod Sayings
 pub mod Hearings
 pub mod Clients
+pub mod Callers
 pub mod Guards

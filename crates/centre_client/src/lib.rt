@@ -2,6 +2,8 @@
 #![tactic(auto)]
 
 mod asking;
+mod calling;
+mod client;
 mod end;
 mod fault;
 mod hearing;
@@ -12,6 +14,7 @@ mod script;
 mod showing;
 mod steps;
 
+pub use client::Client;
 pub use end::ClientEnd;
 pub use fault::{ScriptFault, ScriptWhy};
 pub use laws::{
