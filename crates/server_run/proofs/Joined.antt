@@ -55,16 +55,15 @@ gathers-joined node before after other may of number ended all = record {
   keeps = all.0;
 }
 
--- what is closed over the numbers of a seat is closed over those of the seat that gathered them
+-- what is closed over the numbers of a seat is closed over those of the seat that gathered them,
+-- and over those that this one had ended before
 pub closes-over : (node : SharedNode) (before after : NodeSeat) (claims : List SeatClaim)
-    (log : NodeLog) → before.ended ≡ [] → Gathers node before after claims
-    → ClosesOver (numbers after) log → ClosesOver ((before.number, before.front) ∷ claims) log
-closes-over node before after claims log none gathers over =
-    let ended : after.ended ≡ claims = gathers.ended
-    ∙ (ap (λ (l : List SeatClaim). claims ++ l) none ∙ append-nil claims) in
-    let k : ClosesOver ((before.number, after.front) ∷ claims) log =
-    subst (λ (n : ℕ). ClosesOver ((n, after.front) ∷ claims) log) gathers.number
-    (subst (λ (l : List SeatClaim). ClosesOver ((after.number, after.front) ∷ l) log) ended
+    (log : NodeLog) → Gathers node before after claims → ClosesOver (numbers after) log
+    → ClosesOver ((before.number, before.front) ∷ claims ++ before.ended) log
+closes-over node before after claims log gathers over =
+    let k : ClosesOver ((before.number, after.front) ∷ claims ++ before.ended) log =
+    subst (λ (n : ℕ). ClosesOver ((n, after.front) ∷ claims ++ before.ended) log) gathers.number
+    (subst (λ (l : List SeatClaim). ClosesOver ((after.number, after.front) ∷ l) log) gathers.ended
     over) in
     record {
       keeps = (

@@ -1,5 +1,5 @@
 //! The end of a server: its jobs are finished, their seats joined, and their links retired.
-ghost use Rattle.std.specs.Prelude.{◌≡◌, ◌≤◌, List, [], ◌∷◌, length, drop};
+ghost use Rattle.std.specs.Prelude.{◌≡◌, ◌≤◌, List, [], ◌∷◌, ◌++◌, length, drop};
 ghost use Rattle.outside.specs.Source.{SourceTold};
 ghost use Rattle.outside_links.specs.Clocks.{ClockTold};
 ghost use Rattle.share_turn.specs.Entries.{Each};
@@ -151,14 +151,15 @@ impl<'a, R: Threads + Wait> Gatherer<'a, R> {
         }
     }
 
-    /// The node, once all seats were joined. It keeps the events of the seat and of those that it
-    /// gathered, and has no others.
+    /// The node, once all seats were joined. It keeps the events of the seat, of those that it had
+    /// ended before and of those that it gathered, and has no others.
     pub fn close(&self, seat: Seat<TurnNode>) -> Node
         requires { IsOf self.now.shared.now seat }
         ensures setup { turn_setup result.setup ≡ self.now.shared.now.setup }
-        ensures over { (own : NodeSeat) (claims : List SeatClaim) → own.ended ≡ []
+        ensures over { (own : NodeSeat) (claims : List SeatClaim)
             → Gathers self.now.shared.now own seat claims
-            → ClosesOver ((own.number, own.front) ∷ claims) (turn_log result.history) }
+            → ClosesOver ((own.number, own.front) ∷ claims ++ own.ended)
+            (turn_log result.history) }
     {
         let TurnNode { node } = self.shared.close(self.rt, seat);
         node
