@@ -6,7 +6,7 @@ use Rattle.outside.specs.Octets.{Adds}
 use Rattle.outside_names.specs.Outside.{OutsideTold, Asks}
 use Rattle.command_io.specs.declared.status.Status.{Status}
 use Rattle.command_io.specs.declared.status.Status.TheVariants.{Done, Usage, Input, Outside, Full}
-use Rattle.command_io.specs.declared.status.Status.TheVariants.{Differs, Memory}
+use Rattle.command_io.specs.declared.status.Status.TheVariants.{Differs, Memory, Peer}
 use Rattle.command_io.specs.Statuses.{is_outside, is_whole, OnWhole}
 use Rattle.command_io.specs.OutsideUse.{is_among, Uses}
 use Rattle.command_io.specs.Saying.{Said, names_in, with_file, duty_to_say}
@@ -22,6 +22,7 @@ on_whole Usage whole fact = fact
 on_whole Input whole fact = fact
 on_whole Full whole fact = fact
 on_whole Differs whole fact = fact
+on_whole Peer whole fact = fact
 on_whole Outside whole fact = absurd cc
 on_whole Memory whole fact = absurd cc
 
@@ -33,6 +34,7 @@ all_took Usage before after octets whole took = took
 all_took Input before after octets whole took = took
 all_took Full before after octets whole took = took
 all_took Differs before after octets whole took = took
+all_took Peer before after octets whole took = took
 all_took Outside before after octets whole took = absurd cc
 all_took Memory before after octets whole took = absurd cc
 
@@ -43,6 +45,7 @@ took_all Usage before after octets adds = adds
 took_all Input before after octets adds = adds
 took_all Full before after octets adds = adds
 took_all Differs before after octets adds = adds
+took_all Peer before after octets adds = adds
 took_all Outside before after octets adds =
     (length octets, subst (λ o. Adds before after o) (sym (take-length octets)) adds)
 took_all Memory before after octets adds =
@@ -54,6 +57,7 @@ whole_inside Usage whole = refl
 whole_inside Input whole = refl
 whole_inside Full whole = refl
 whole_inside Differs whole = refl
+whole_inside Peer whole = refl
 whole_inside Outside whole = absurd cc
 whole_inside Memory whole = absurd cc
 
@@ -144,6 +148,7 @@ module _ (b : OutsideTold) (said : Said) (alone : said.files ≡ []) (name octet
           outputs_there Input file = there_both file
           outputs_there Full file = there_both file
           outputs_there Differs file = there_both file
+          outputs_there Peer file = there_both file
           outputs_there Outside file = tt
           outputs_there Memory file = tt
 
@@ -167,6 +172,7 @@ module _ (b : OutsideTold) (said : Said) (alone : said.files ≡ []) (name octet
   IsRun-filed m a status Input whole run files = absurd files.ends
   IsRun-filed m a status Full whole run files = absurd files.ends
   IsRun-filed m a status Differs whole run files = absurd files.ends
+  IsRun-filed m a status Peer whole run files = absurd files.ends
 
   -- none was written behind one whose output isn't whole
   unfiled : (a : OutsideTold) (status : Status) → IsRun (duty_to_say true said) b a status
@@ -209,3 +215,4 @@ module _ (b : OutsideTold) (said : Said) (alone : said.files ≡ []) (name octet
   IsRun-unfiled a Input cut run = absurd cc
   IsRun-unfiled a Full cut run = absurd cc
   IsRun-unfiled a Differs cut run = absurd cc
+  IsRun-unfiled a Peer cut run = absurd cc

@@ -11,7 +11,7 @@ use Rattle.outside_names.specs.Outside.{OutsideTold, Asks}
 use Rattle.outside_names.specs.Outside.{OpensOut, ClosesOut}
 use Rattle.command_io.specs.declared.status.Status.{Status}
 use Rattle.command_io.specs.declared.status.Status.TheVariants.{Done, Usage, Input, Outside, Full}
-use Rattle.command_io.specs.declared.status.Status.TheVariants.{Differs, Memory}
+use Rattle.command_io.specs.declared.status.Status.TheVariants.{Differs, Memory, Peer}
 use Rattle.command_io.specs.Statuses.{is_outside, is_whole, is_of_command, OnWhole}
 use Rattle.command_io.specs.OutsideUse.{SomeOf, Rises, Uses, source_faults, sink_faults, FailedAt}
 use Rattle.command_io.specs.OutsideUse.{FaultyAt, IsTextRead, IsWritten}
@@ -53,6 +53,7 @@ Tells-answered said k l Usage tells = tells.0
 Tells-answered said k l Input tells = tells.0
 Tells-answered said k l Full tells = tells.0
 Tells-answered said k l Differs tells = tells.0
+Tells-answered said k l Peer tells = tells.0
 Tells-answered said k l Outside tells = tt
 Tells-answered said k l Memory tells = tt
 
@@ -63,6 +64,7 @@ Tells-took said k l Usage tells = tells.1.taken
 Tells-took said k l Input tells = tells.1.taken
 Tells-took said k l Full tells = tells.1.taken
 Tells-took said k l Differs tells = tells.1.taken
+Tells-took said k l Peer tells = tells.1.taken
 Tells-took said k l Outside tells = (tells.0, tells.1.taken)
 Tells-took said k l Memory tells = (tells.0, tells.1.taken)
 
@@ -73,6 +75,7 @@ Tells-faults said k l Usage tells = tells.1.faults
 Tells-faults said k l Input tells = tells.1.faults
 Tells-faults said k l Full tells = tells.1.faults
 Tells-faults said k l Differs tells = tells.1.faults
+Tells-faults said k l Peer tells = tells.1.faults
 Tells-faults said k l Outside tells = tells.1.faults
 Tells-faults said k l Memory tells = tells.1.faults
 
@@ -83,6 +86,7 @@ Tells-name said k l Usage tells = tells.1.name
 Tells-name said k l Input tells = tells.1.name
 Tells-name said k l Full tells = tells.1.name
 Tells-name said k l Differs tells = tells.1.name
+Tells-name said k l Peer tells = tells.1.name
 Tells-name said k l Outside tells = tells.1.name
 Tells-name said k l Memory tells = tells.1.name
 
@@ -93,6 +97,7 @@ Tells-written said k l Usage tells = (said.text, false, tells.1)
 Tells-written said k l Input tells = (said.text, false, tells.1)
 Tells-written said k l Full tells = (said.text, false, tells.1)
 Tells-written said k l Differs tells = (said.text, false, tells.1)
+Tells-written said k l Peer tells = (said.text, false, tells.1)
 Tells-written said k l Outside tells = (take tells.0 said.text, true, tells.1)
 Tells-written said k l Memory tells = (take tells.0 said.text, false, tells.1)
 
@@ -108,7 +113,9 @@ answers_words Input status whole (inr lost) = λ usage. absurd cc
 answers_words Full status whole (inl same) = λ usage. absurd cc
 answers_words Full status whole (inr lost) = λ usage. absurd cc
 answers_words Differs status whole (inl same) = λ usage. absurd cc
+answers_words Peer status whole (inl same) = λ usage. absurd cc
 answers_words Differs status whole (inr lost) = λ usage. absurd cc
+answers_words Peer status whole (inr lost) = λ usage. absurd cc
 answers_words Outside status whole either = absurd cc
 answers_words Memory status whole either = absurd cc
 

@@ -11,7 +11,7 @@ use Rattle.outside.specs.Sink.{SinkTold}
 use Rattle.outside_names.specs.Outside.{NameEntry, OutsideTold, Asks}
 use Rattle.command_io.specs.declared.status.Status.{Status}
 use Rattle.command_io.specs.declared.status.Status.TheVariants.{Done, Usage, Input, Outside, Full}
-use Rattle.command_io.specs.declared.status.Status.TheVariants.{Differs, Memory}
+use Rattle.command_io.specs.declared.status.Status.TheVariants.{Differs, Memory, Peer}
 use Rattle.command_io.specs.Statuses.{is_outside, OnWhole}
 use Rattle.command_io.specs.OutsideUse.{is_among, SomeOf, AsksFront, Keeps, Rises, Uses}
 use Rattle.command_io.specs.OutsideUse.{source_faults, sink_faults, IsTextRead, IsWritten}
@@ -30,6 +30,7 @@ OnWhole-all Usage p = p
 OnWhole-all Input p = p
 OnWhole-all Full p = p
 OnWhole-all Differs p = p
+OnWhole-all Peer p = p
 OnWhole-all Outside p = tt
 OnWhole-all Memory p = tt
 
@@ -39,6 +40,7 @@ OnWhole-map Usage f h = f h
 OnWhole-map Input f h = f h
 OnWhole-map Full f h = f h
 OnWhole-map Differs f h = f h
+OnWhole-map Peer f h = f h
 OnWhole-map Outside f h = tt
 OnWhole-map Memory f h = tt
 
@@ -60,6 +62,7 @@ IsComplete-from Usage before now said answered cause = λ none. inl (sym answere
 IsComplete-from Input before now said answered cause = λ none. inl (sym answered)
 IsComplete-from Full before now said answered cause = λ none. inl (sym answered)
 IsComplete-from Differs before now said answered cause = λ none. inl (sym answered)
+IsComplete-from Peer before now said answered cause = λ none. inl (sym answered)
 IsComplete-from Outside before now said answered cause = λ none. absurd (none (cause refl))
 IsComplete-from Memory before now said answered cause = λ none. inr refl
 
@@ -82,6 +85,7 @@ Took-untold Usage octets = refl
 Took-untold Input octets = refl
 Took-untold Full octets = refl
 Took-untold Differs octets = refl
+Took-untold Peer octets = refl
 Took-untold Outside octets = (0, refl)
 Took-untold Memory octets = (0, refl)
 
@@ -92,6 +96,7 @@ IsCut Usage = ⊥
 IsCut Input = ⊥
 IsCut Full = ⊥
 IsCut Differs = ⊥
+IsCut Peer = ⊥
 IsCut Outside = Unit {0}
 IsCut Memory = Unit {0}
 
@@ -104,6 +109,7 @@ module _ (status : Status) (cut : IsCut status) (before after : List ℕ → Nam
   nothing_took Input is name octets = absurd is
   nothing_took Full is name octets = absurd is
   nothing_took Differs is name octets = absurd is
+  nothing_took Peer is name octets = absurd is
   nothing_took Outside is name octets = (
     0,
     subst (λ t. Adds (taken_of (before name)) t []) (sym (same name))
@@ -121,6 +127,7 @@ module _ (status : Status) (cut : IsCut status) (before after : List ℕ → Nam
   cut_whole Input is P = absurd is
   cut_whole Full is P = absurd is
   cut_whole Differs is P = absurd is
+  cut_whole Peer is P = absurd is
   cut_whole Outside is P = tt
   cut_whole Memory is P = tt
 
@@ -147,6 +154,7 @@ cut_words true Usage cut lost = absurd cut
 cut_words true Input cut lost = absurd cut
 cut_words true Full cut lost = absurd cut
 cut_words true Differs cut lost = absurd cut
+cut_words true Peer cut lost = absurd cut
 cut_words true Outside cut lost = λ same. absurd cc
 cut_words true Memory cut lost = λ same. absurd cc
 

@@ -6,7 +6,7 @@ use Rattle.outside.specs.Sink.{SinkTold, AppendsAll, AppendsPart}
 use Rattle.outside_names.specs.Outside.{NameEntry, untold, missing, lent, there, OutsideTold, Asks}
 use Rattle.command_io.specs.declared.status.Status.{Status}
 use Rattle.command_io.specs.declared.status.Status.TheVariants.{Done, Usage, Input, Outside, Full}
-use Rattle.command_io.specs.declared.status.Status.TheVariants.{Differs, Memory}
+use Rattle.command_io.specs.declared.status.Status.TheVariants.{Differs, Memory, Peer}
 use Rattle.command_io.specs.declared.input.InputEnd.{InputEnd}
 use Rattle.command_io.specs.declared.input.InputEnd.TheVariants.{Refused}
 use Rattle.command_io.specs.declared.input.InputEnd.TheVariants as ends
@@ -33,6 +33,7 @@ Took Usage before after octets = Adds before after octets
 Took Input before after octets = Adds before after octets
 Took Full before after octets = Adds before after octets
 Took Differs before after octets = Adds before after octets
+Took Peer before after octets = Adds before after octets
 Took Outside before after octets = (count : ℕ) × Adds before after (take count octets)
 Took Memory before after octets = (count : ℕ) × Adds before after (take count octets)
 
@@ -116,6 +117,7 @@ TellsSaid said before after Usage = (said.status ≡ Usage) × AppendsAll before
 TellsSaid said before after Input = (said.status ≡ Input) × AppendsAll before after said.text
 TellsSaid said before after Full = (said.status ≡ Full) × AppendsAll before after said.text
 TellsSaid said before after Differs = (said.status ≡ Differs) × AppendsAll before after said.text
+TellsSaid said before after Peer = (said.status ≡ Peer) × AppendsAll before after said.text
 TellsSaid said before after Outside = AppendsPart before after said.text true
 TellsSaid said before after Memory = AppendsPart before after said.text false
 

@@ -2,7 +2,7 @@
 use Rattle.std.specs.Prelude.{ℕ, Bool, true, false}
 use Rattle.command_io.specs.declared.status.Status.{Status}
 use Rattle.command_io.specs.declared.status.Status.TheVariants.{Done, Usage, Input, Outside, Full}
-use Rattle.command_io.specs.declared.status.Status.TheVariants.{Differs, Memory}
+use Rattle.command_io.specs.declared.status.Status.TheVariants.{Differs, Memory, Peer}
 
 -- the exit status
 abbrev pub code_of : Status → ℕ
@@ -12,6 +12,7 @@ code_of Input = 3
 code_of Outside = 4
 code_of Full = 5
 code_of Differs = 6
+code_of Peer = 8
 code_of Memory = 7
 
 -- whether it answers a fault outside
@@ -22,6 +23,7 @@ is_outside Input = false
 is_outside Outside = true
 is_outside Full = false
 is_outside Differs = false
+is_outside Peer = false
 is_outside Memory = false
 
 -- whether all output is whole with it
@@ -32,6 +34,7 @@ is_whole Input = true
 is_whole Outside = false
 is_whole Full = true
 is_whole Differs = true
+is_whole Peer = true
 is_whole Memory = false
 
 -- a fact of a status with which all output is whole
@@ -42,6 +45,7 @@ OnWhole Input fact = fact
 OnWhole Outside fact = Unit {0}
 OnWhole Full fact = fact
 OnWhole Differs fact = fact
+OnWhole Peer fact = fact
 OnWhole Memory fact = Unit {0}
 
 -- whether it answers words that are a command
@@ -52,4 +56,5 @@ is_of_command Input = true
 is_of_command Outside = true
 is_of_command Full = true
 is_of_command Differs = true
+is_of_command Peer = true
 is_of_command Memory = true

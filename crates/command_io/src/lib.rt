@@ -7,5 +7,5 @@ mod output;
 mod status;
 
 pub use input::{InputEnd, JOURNAL_LIMIT, Refusal, TEXT_LIMIT, read_input, value_or_end};
-pub use output::{OUTPUT, end_unread, print, refuse, tell_full, tell_refusal};
+pub use output::{OUTPUT, end_unread, print, refuse, tell, tell_full, tell_refusal};
 pub use status::Status;

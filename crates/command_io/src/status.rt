@@ -22,6 +22,9 @@ pub enum Status {
     Differs,
     /// 7: memory ran out.
     Memory,
+    /// 8: a client has ended before its script was played, by what its peer gave; the last line
+    /// printed says how.
+    Peer,
 }
 
 impl Status {
@@ -39,6 +42,7 @@ impl Status {
             Status::Full => 5,
             Status::Differs => 6,
             Status::Memory => 7,
+            Status::Peer => 8,
         }
     }
 }

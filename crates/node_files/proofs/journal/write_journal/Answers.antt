@@ -3,7 +3,7 @@ use Rattle.command_io.specs.declared.status.Status.TheVariants.{Done}
 use Rattle.command_io.specs.Saying.{prints}
 use Rattle.command_io.proofs.Printing.{TellsOut-told, TellsOut-untold}
 use Rattle.journal_text.specs.Journals.{journal_text}
-use Rattle.tase_tool.proofs.journal.write_journal.Goals as goal
+use Rattle.node_files.proofs.journal.write_journal.Goals as goal
 
 pub returns-in_default : goal.returns-in_default
 returns-in_default g c = record {

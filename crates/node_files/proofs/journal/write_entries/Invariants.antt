@@ -1,7 +1,7 @@
 use Rattle.std.proofs.Common.{take}
 use Rattle.outside.specs.Sink.{AppendsAll}
 use Rattle.journal_text.specs.Journals.{journal_text}
-use Rattle.tase_tool.proofs.journal.write_entries.Given as goal
+use Rattle.node_files.proofs.journal.write_entries.Given as goal
 
 abbrev pub invariant-loop-place : goal.invariant-loop-place
 invariant-loop-place g l =

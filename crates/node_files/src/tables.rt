@@ -2,8 +2,8 @@
 ghost use Rattle.std.specs.Prelude.{◌≡◌, IfOk};
 ghost use Rattle.command_io.specs.declared.input.TheConstants.{TEXT_LIMIT};
 ghost use Rattle.command_io.specs.Plans.{IsSpelled, ReadsValue};
-ghost use Rattle.tase_tool.specs.Tables.{tables_in};
-ghost use Rattle.tase_tool.specs.Tables as own;
+ghost use Rattle.node_files.specs.Tables.{tables_in};
+ghost use Rattle.node_files.specs.Tables as own;
 
 use bilateral::{Centre, TableFault, read_centre};
 use command_io::{InputEnd, TEXT_LIMIT, read_input, value_or_end};
@@ -21,7 +21,7 @@ fn centre_or_line(read: Result<Centre, TableFault>) -> Result<Centre, u64>
 }
 
 /// The centre of a text of tables, or the number of its first bad line.
-pub(crate) fn read_lines(alloc: Global, text: &[u8]) -> Result<Result<Centre, u64>, AllocError>
+pub fn read_lines(alloc: Global, text: &[u8]) -> Result<Result<Centre, u64>, AllocError>
     ensures { IfOk result (λ read. read ≡ tables_in text.now) }
 {
     Ok(centre_or_line(read_centre(alloc, text)?))
@@ -35,7 +35,7 @@ fn centre_from(alloc: Global, text: &[u8]) -> Result<Centre, InputEnd>
 }
 
 /// Reads the tables under a name.
-pub(crate) fn read_tables<O: Outside>(
+pub fn read_tables<O: Outside>(
     alloc: Global,
     outside: &mut O,
     name: &str,

@@ -12,11 +12,11 @@ use Rattle.outside.specs.Sink.{SinkTold, AppendsAll, AppendsPart, WritesAll}
 use Rattle.outside.proofs.Writing.{Appends-append, AppendsPart-append, AppendsPart-front}
 use Rattle.command_io.specs.declared.status.Status.{Status}
 use Rattle.command_io.specs.declared.status.Status.TheVariants.{Done, Usage, Input, Outside, Full}
-use Rattle.command_io.specs.declared.status.Status.TheVariants.{Differs, Memory}
+use Rattle.command_io.specs.declared.status.Status.TheVariants.{Differs, Memory, Peer}
 use Rattle.command_io.specs.Saying.{prints}
 use Rattle.command_io.specs.Runs.{TellsSaid, IsFileEnd}
 use Rattle.tase_views.specs.declared.event.Entry.{Entry}
-use Rattle.tase_tool.specs.Kept.{status_of_write}
+use Rattle.node_files.specs.Kept.{status_of_write}
 use Rattle.journal_text.specs.Journals.{entry_text, entry_line, journal_text}
 
 -- the text with one entry more
@@ -81,6 +81,7 @@ module _ (history : List Entry) (place : ℕ) (within : place < length history) 
   journal_stopped Input ends other tells = absurd ends
   journal_stopped Full ends other tells = absurd ends
   journal_stopped Differs ends other tells = absurd ends
+  journal_stopped Peer ends other tells = absurd ends
   journal_stopped Outside ends other tells = line_stopped true tells
   journal_stopped Memory ends other tells = line_stopped false tells
 

@@ -2,9 +2,10 @@
 ghost use Rattle.std.specs.Prelude.{◌≡◌, ◌∷◌, [], ◌++◌, IfSome, slice_get};
 ghost use Rattle.outside.specs.Sink.{WritesAll};
 ghost use Rattle.command_io.specs.Saying.{prints};
-ghost use Rattle.command_io.specs.Runs.{TellsSaid, IsFileEnd, WritesFile, status_behind};
+ghost use Rattle.command_io.specs.Runs.{TellsSaid, IsFileEnd, WritesFile};
 ghost use Rattle.journal_text.specs.Journals.{entry_line, journal_text};
-ghost use Rattle.tase_tool.specs.Kept.{KeepsJournal, status_of_write};
+ghost use Rattle.command_io.specs.Runs as own;
+ghost use Rattle.node_files.specs.Kept.{KeepsJournal, status_of_write};
 
 use command_io::Status;
 use node_core::Node;
@@ -15,7 +16,7 @@ use std::alloc::Global;
 /// Writes the journal of a node to the file of this name, once a command has ended with a status
 /// whose output is whole; behind another it leaves the file as it was. It answers the status of
 /// both.
-pub(crate) fn keep_journal<O: Outside>(
+pub fn keep_journal<O: Outside>(
     alloc: Global,
     outside: &mut O,
     node: &Node,
@@ -27,13 +28,13 @@ pub(crate) fn keep_journal<O: Outside>(
 {
     match status {
         Status::Outside | Status::Memory => status,
-        _ => behind(status, write_journal(alloc, outside, node, name)),
+        _ => status_behind(status, write_journal(alloc, outside, node, name)),
     }
 }
 
-// The status of a command that has ended with one, and has written a file with another since.
-fn behind(status: Status, written: Status) -> Status
-    ensures { result ≡ status_behind status written }
+/// The status of a command that has ended with one, and has written a file with another since.
+pub fn status_behind(status: Status, written: Status) -> Status
+    ensures { result ≡ own.status_behind status written }
 {
     match written {
         Status::Outside | Status::Memory => written,
@@ -41,8 +42,9 @@ fn behind(status: Status, written: Status) -> Status
     }
 }
 
-// Opens the file of a journal, writes it, and closes the file.
-fn write_journal<O: Outside>(alloc: Global, outside: &mut O, node: &Node, name: &str) -> Status
+/// Opens the file of a journal, writes it, and closes the file. It answers done, a fault of the
+/// outside, or want of memory; then it has a front part of the journal.
+pub fn write_journal<O: Outside>(alloc: Global, outside: &mut O, node: &Node, name: &str) -> Status
     ensures { WritesFile name.now (journal_text node.now.history)
         (O.told outside.old) (O.told outside.new) result }
 {

@@ -1,6 +1,6 @@
 use Rattle.std.proofs.Common.{arith}
-use Rattle.tase_tool.proofs.Journals.{line_written, journal_stopped}
-use Rattle.tase_tool.proofs.journal.write_entries.Goals as goal
+use Rattle.node_files.proofs.Journals.{line_written, journal_stopped}
+use Rattle.node_files.proofs.journal.write_entries.Goals as goal
 
 pub loop-place-preserved : goal.loop-place-preserved
 loop-place-preserved g c =

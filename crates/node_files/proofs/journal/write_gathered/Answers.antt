@@ -6,8 +6,8 @@ use Rattle.command_io.specs.declared.status.Status.TheVariants.{Done, Outside}
 use Rattle.command_io.specs.Saying.{prints}
 use Rattle.command_io.specs.Runs.{TellsSaid}
 use Rattle.journal_text.specs.Journals.{journal_text}
-use Rattle.tase_tool.proofs.Playing.{Tells-handed, Tells-unhanded, Tells-failed}
-use Rattle.tase_tool.proofs.journal.write_gathered.Goals as goal
+use Rattle.node_files.proofs.Handed.{Tells-handed, Tells-unhanded, Tells-failed}
+use Rattle.node_files.proofs.journal.write_gathered.Goals as goal
 
 pub returns-in-Err-clause-tells : goal.returns-in-Err-clause-tells
 returns-in-Err-clause-tells g c =

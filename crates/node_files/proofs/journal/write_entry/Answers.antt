@@ -3,8 +3,8 @@ use Rattle.std.specs.Prelude.{slice_get}
 use Rattle.command_io.specs.declared.status.Status.TheVariants.{Done}
 use Rattle.command_io.specs.Saying.{prints}
 use Rattle.command_io.specs.Runs.{TellsSaid}
-use Rattle.tase_tool.proofs.Journals.{of_entry, of_no_entry, tells_written}
-use Rattle.tase_tool.proofs.journal.write_entry.Goals as goal
+use Rattle.node_files.proofs.Journals.{of_entry, of_no_entry, tells_written}
+use Rattle.node_files.proofs.journal.write_entry.Goals as goal
 
 pub returns-in-Some-clause-tells : goal.returns-in-Some-clause-tells
 returns-in-Some-clause-tells g c =
