@@ -9,7 +9,9 @@ use Rattle.command_words.specs.Words.{Question, ReplayOptions, Task, are_file_na
 use Rattle.command_words.specs.Words.{is_decode, is_decode_pdu, is_file_name, is_replay, is_verify}
 use Rattle.command_words.specs.Words.{lists_stream, loads, options_in, pdu_task_in, question_in}
 use Rattle.command_words.specs.Words.{question_of, replays, rounds_in, task_in, task_in_three}
-use Rattle.command_words.specs.Words.{task_in_two, verifies}
+use Rattle.command_words.specs.Words.{task_behind, task_in_two, verifies}
+use Rattle.command_words.specs.Words.{ClientTask, ServeTask, client_in, is_client, is_serve}
+use Rattle.command_words.specs.Words.{plays_client, serve_in, serves}
 use Rattle.command_words.proofs.Tests.{both, chosen, mapped, not_none, some_is}
 
 -- `replay TABLES SCENARIO` and options
@@ -61,12 +63,32 @@ pub record AreLoad (rounds : ℕ) (words : List (List ℕ)) : Type 0 where
   pub words_are : words ≡ codes "load" ∷ word ∷ []
   pub rounds_are : rounds_in word ≡ Some rounds
 
+-- `serve TABLES` and options
+pub record AreServe (task : ServeTask) (words : List (List ℕ)) : Type 0 where
+  pub tables : List ℕ
+  pub more : List (List ℕ)
+  pub words_are : words ≡ codes "serve" ∷ tables ∷ more
+  pub tables_name : is_file_name tables ≡ true
+  pub task_is : serve_in tables more ≡ Some task
+
+-- `client TABLES SCRIPT` and an address
+pub record AreClient (task : ClientTask) (words : List (List ℕ)) : Type 0 where
+  pub tables : List ℕ
+  pub script : List ℕ
+  pub more : List (List ℕ)
+  pub words_are : words ≡ codes "client" ∷ tables ∷ script ∷ more
+  pub tables_name : is_file_name tables ≡ true
+  pub script_name : is_file_name script ≡ true
+  pub task_is : client_in tables script more ≡ Some task
+
 abbrev pub HasForm : Task → List (List ℕ) → Type 0
 HasForm (replays tables scenario options) words = AreReplay tables scenario options words
 HasForm (lists_stream capture) words = AreStream capture words
 HasForm (decodes_pdu capture) words = ArePdu capture words
 HasForm (verifies question) words = AreVerify question words
 HasForm (loads rounds) words = AreLoad rounds words
+HasForm (serves task) words = AreServe task words
+HasForm (plays_client task) words = AreClient task words
 
 text_is : (xs ys : List ℕ) → bytes_eq xs ys ≡ true → xs ≡ ys
 text_is xs ys e = (bytes_eq-Decides xs ys).0 e
@@ -212,12 +234,49 @@ verify first second third more task is e =
     } in
     subst (λ (t : Task). HasForm t (first ∷ second ∷ third ∷ more)) m.2 form
 
+client : (first second third : List ℕ) (more : List (List ℕ)) (task : Task)
+    → is_client first second third ≡ true
+    → option_map plays_client (client_in second third more) ≡ Some task
+    → HasForm task (first ∷ second ∷ third ∷ more)
+client first second third more task is e =
+    let m = mapped (client_in second third more) plays_client task e in
+    let h = both (bytes_eq first (codes "client") && is_file_name second) (is_file_name third) is in
+    let k = both (bytes_eq first (codes "client")) (is_file_name second) h.0 in
+    let form : AreClient m.0 (first ∷ second ∷ third ∷ more) = record {
+      tables = second;
+      script = third;
+      more = more;
+      words_are = ap (λ (v : List ℕ). v ∷ second ∷ third ∷ more)
+          (text_is first (codes "client") k.0);
+      tables_name = k.1;
+      script_name = h.1;
+      task_is = m.1;
+    } in
+    subst (λ (t : Task). HasForm t (first ∷ second ∷ third ∷ more)) m.2 form
+
+serve : (first second : List ℕ) (more : List (List ℕ)) (task : Task)
+    → is_serve first second ≡ true → option_map serves (serve_in second more) ≡ Some task
+    → HasForm task (first ∷ second ∷ more)
+serve first second more task is e =
+    let m = mapped (serve_in second more) serves task e in
+    let h = both (bytes_eq first (codes "serve")) (is_file_name second) is in
+    let form : AreServe m.0 (first ∷ second ∷ more) = record {
+      tables = second;
+      more = more;
+      words_are = ap (λ (v : List ℕ). v ∷ second ∷ more) (text_is first (codes "serve") h.0);
+      tables_name = h.1;
+      task_is = m.1;
+    } in
+    subst (λ (t : Task). HasForm t (first ∷ second ∷ more)) m.2 form
+
 three : (first second third : List ℕ) (more : List (List ℕ)) (task : Task)
     → task_in_three first second third more ≡ Some task
     → HasForm task (first ∷ second ∷ third ∷ more)
 three first second third more task e =
+    let fourth_else : Option Task = if is_client first second third
+    then option_map plays_client (client_in second third more) else None in
     let third_else : Option Task = if is_verify first second third
-    then option_map verifies (question_of second third more) else None in
+    then option_map verifies (question_of second third more) else fourth_else in
     let second_else : Option Task =
     if is_decode_pdu first second third then pdu_task_in third more else third_else in
     elim (chosen (is_replay first second third)
@@ -227,17 +286,30 @@ three first second third more task e =
           task h.1) [
             | inl k ↦ pdu first second third more task k.0 k.1
             | inr k ↦ elim (chosen (is_verify first second third)
-                (option_map verifies (question_of second third more)) None task k.1) [
+                (option_map verifies (question_of second third more)) fourth_else task k.1) [
                   | inl l ↦ verify first second third more task l.0 l.1
-                  | inr l ↦ absurd (not_none task l.1)
+                  | inr l ↦ elim (chosen (is_client first second third)
+                      (option_map plays_client (client_in second third more)) None task l.1) [
+                        | inl m ↦ client first second third more task m.0 m.1
+                        | inr m ↦ absurd (not_none task m.1)
+                      ]
                 ]
           ]
     ]
+
+behind_two : (first second : List ℕ) (more : List (List ℕ)) (task : Task)
+    → task_behind first second more ≡ Some task → HasForm task (first ∷ second ∷ more)
+behind_two first second [] task e = two first second task e
+behind_two first second (third ∷ more) task e = three first second third more task e
 
 -- words that ask for a task are those of its command
 pub has_form : (words : List (List ℕ)) (task : Task) → task_in words ≡ Some task
     → HasForm task words
 has_form [] task e = absurd (not_none task e)
 has_form (first ∷ []) task e = absurd (not_none task e)
-has_form (first ∷ second ∷ []) task e = two first second task e
-has_form (first ∷ second ∷ third ∷ more) task e = three first second third more task e
+has_form (first ∷ second ∷ more) task e =
+    elim (chosen (is_serve first second) (option_map serves (serve_in second more))
+    (task_behind first second more) task e) [
+      | inl h ↦ serve first second more task h.0 h.1
+      | inr h ↦ behind_two first second more task h.1
+    ]

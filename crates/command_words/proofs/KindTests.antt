@@ -9,13 +9,14 @@ use Rattle.std.specs.Bool.{then_some}
 use Rattle.plain_text.specs.Numbers.{number_up_to}
 use Rattle.command_words.specs.declared.words.CommandKind.{CommandKind}
 use Rattle.command_words.specs.declared.words.CommandKind.TheVariants as kind
-use Rattle.command_words.specs.Kinds.{are_options, is_journal, is_question}
+use Rattle.command_words.specs.Kinds.{are_connect, are_options, is_question}
 use Rattle.command_words.specs.Kinds.{kind_of_task}
 use Rattle.command_words.specs.Words.{is_decode_pdu, is_replay, is_verify, pdu_task_in}
 use Rattle.command_words.specs.Words.{task_in_three}
 use Rattle.command_words.specs.Words.{Question, ReplayOptions, Task, are_file_names}
 use Rattle.command_words.specs.Words.{is_journal_name, limit_in, loads, no_options, options_in}
-use Rattle.command_words.specs.Words.{question_of, replays, verifies}
+use Rattle.command_words.specs.Words.{ClientTask, ServeTask, client_in, is_client, is_connect}
+use Rattle.command_words.specs.Words.{plays_client, question_of, replays, serves, verifies}
 
 -- a task that is made of a value, where there is one
 pub kind_of_made : {A : Type 0} (o : Option A) (f : A → Task) (k : CommandKind)
@@ -138,32 +139,86 @@ pub kind_of_load : (o : Option ℕ)
     → then_some (is_some o) kind.Load ≡ option_map kind_of_task (option_map loads o)
 kind_of_load o = kind_of_made o loads kind.Load (λ x. refl)
 
--- the kind of three words and more, where they begin as a replay
-pub three_replay : (first second third : List ℕ) (more : List (List ℕ))
-    → is_replay first second third ≡ true
-    → then_some (are_options more) kind.Replay
-    ≡ option_map kind_of_task (task_in_three first second third more)
-three_replay first second third more is =
-    kind_of_replay second third more
-    ∙ ap (λ (b : Bool). option_map kind_of_task
-    (if b then option_map (replays second third) (options_in more)
-    else (if is_decode_pdu first second third then pdu_task_in third more
-    else (if is_verify first second third
-    then option_map verifies (question_of second third more) else None)))) (sym is)
+connected : {A : Type 0} (b : Bool) (x : A) → b ≡ is_some (if b then Some x else None)
+connected true x = refl
+connected false x = refl
 
--- where they begin as a check
-pub three_verify : (first second third : List ℕ) (more : List (List ℕ))
-    → is_replay first second third ≡ false → is_decode_pdu first second third ≡ false
-    → is_verify first second third ≡ true
-    → then_some (is_question more) kind.Verify
-    ≡ option_map kind_of_task (task_in_three first second third more)
-three_verify first second third more other unread is =
-    let asked_by : Option Task = option_map verifies (question_of second third more) in
-    let last : Option Task = if is_verify first second third then asked_by else None in
-    kind_of_verify second third more
-    ∙ ap (λ (b : Bool). option_map kind_of_task (if b then asked_by else None)) (sym is)
-    ∙ ap (λ (b : Bool). option_map kind_of_task (if b then pdu_task_in third more else last))
-    (sym unread)
-    ∙ ap (λ (b : Bool). option_map kind_of_task
-    (if b then option_map (replays second third) (options_in more)
-    else (if is_decode_pdu first second third then pdu_task_in third more else last))) (sym other)
+-- the test of an address to connect to
+pub connect_tested : (tables script : List ℕ) (words : List (List ℕ))
+    → are_connect words ≡ is_some (client_in tables script words)
+connect_tested tables script [] = refl
+connect_tested tables script (a ∷ []) = refl
+connect_tested tables script (option ∷ word ∷ []) =
+    let task : ClientTask = record { tables = tables; script = script; address = word } in
+    connected (is_connect option word) task
+connect_tested tables script (a ∷ b ∷ c ∷ more) = refl
+
+pub kind_of_client : (tables script : List ℕ) (words : List (List ℕ))
+    → then_some (are_connect words) kind.Client
+    ≡ option_map kind_of_task (option_map plays_client (client_in tables script words))
+kind_of_client tables script words =
+    ap (λ (b : Bool). then_some b kind.Client) (connect_tested tables script words)
+    ∙ kind_of_made (client_in tables script words) plays_client kind.Client (λ x. refl)
+
+-- the test of what is to be served
+pub kind_of_serve : {A : Type 0} (o : Option A) (f : A → ServeTask) (task : Option ServeTask)
+    → option_map f o ≡ task
+    → then_some (is_some o) kind.Serve ≡ option_map kind_of_task (option_map serves task)
+kind_of_serve None f task e = ap (λ (t : Option ServeTask).
+    option_map kind_of_task (option_map serves t)) e
+kind_of_serve (Some x) f task e = ap (λ (t : Option ServeTask).
+    option_map kind_of_task (option_map serves t)) e
+
+module _ (first second third : List ℕ) (more : List (List ℕ)) where
+  -- what the words ask for, by what they begin as
+  abbrev by_client : Bool → Option Task
+  by_client b = if b then option_map plays_client (client_in second third more) else None
+
+  abbrev by_verify : Bool → Option Task
+  by_verify b = if b then option_map verifies (question_of second third more)
+      else by_client (is_client first second third)
+
+  abbrev by_pdu : Bool → Option Task
+  by_pdu b = if b then pdu_task_in third more else by_verify (is_verify first second third)
+
+  abbrev by_replay : Bool → Option Task
+  by_replay b = if b then option_map (replays second third) (options_in more)
+      else by_pdu (is_decode_pdu first second third)
+
+  -- the kind of three words and more, where they begin as a replay
+  pub three_replay : is_replay first second third ≡ true
+      → then_some (are_options more) kind.Replay
+      ≡ option_map kind_of_task (task_in_three first second third more)
+  three_replay is = kind_of_replay second third more
+      ∙ ap (λ (b : Bool). option_map kind_of_task (by_replay b)) (sym is)
+
+  -- where they begin as a check
+  pub three_verify : is_replay first second third ≡ false → is_decode_pdu first second third ≡ false
+      → is_verify first second third ≡ true
+      → then_some (is_question more) kind.Verify
+      ≡ option_map kind_of_task (task_in_three first second third more)
+  three_verify other unread is = kind_of_verify second third more
+      ∙ ap (λ (b : Bool). option_map kind_of_task (by_verify b)) (sym is)
+      ∙ ap (λ (b : Bool). option_map kind_of_task (by_pdu b)) (sym unread)
+      ∙ ap (λ (b : Bool). option_map kind_of_task (by_replay b)) (sym other)
+
+  -- where they begin as a client
+  pub three_client : is_replay first second third ≡ false → is_decode_pdu first second third ≡ false
+      → is_verify first second third ≡ false → is_client first second third ≡ true
+      → then_some (are_connect more) kind.Client
+      ≡ option_map kind_of_task (task_in_three first second third more)
+  three_client other unread unchecked is = kind_of_client second third more
+      ∙ ap (λ (b : Bool). option_map kind_of_task (by_client b)) (sym is)
+      ∙ ap (λ (b : Bool). option_map kind_of_task (by_verify b)) (sym unchecked)
+      ∙ ap (λ (b : Bool). option_map kind_of_task (by_pdu b)) (sym unread)
+      ∙ ap (λ (b : Bool). option_map kind_of_task (by_replay b)) (sym other)
+
+  -- where they begin as none
+  pub three_none : is_replay first second third ≡ false → is_decode_pdu first second third ≡ false
+      → is_verify first second third ≡ false → is_client first second third ≡ false
+      → None ≡ option_map kind_of_task (task_in_three first second third more)
+  three_none other unread unchecked apart =
+      ap (λ (b : Bool). option_map kind_of_task (by_client b)) (sym apart)
+      ∙ ap (λ (b : Bool). option_map kind_of_task (by_verify b)) (sym unchecked)
+      ∙ ap (λ (b : Bool). option_map kind_of_task (by_pdu b)) (sym unread)
+      ∙ ap (λ (b : Bool). option_map kind_of_task (by_replay b)) (sym other)

@@ -3,6 +3,7 @@ pub mod PlainWords
 pub mod Walked
 pub mod Forms
 pub mod OptionWords
+pub mod ServeOptions
 pub mod Limited
 pub mod KindTests
 pub mod Unasked
@@ -10,4 +11,6 @@ pub mod LoadRead
 pub mod DecodeRead
 pub mod ReplayRead
 pub mod VerifyRead
+pub mod ServeRead
+pub mod ClientRead
 pub mod ReadForms

@@ -1,14 +1,16 @@
 -- What a command asks for is within its limits, by the words that ask for it.
-use Rattle.std.proofs.Common.{◌≡◌, List, ℕ, Option, Some, None, IfSome, option_map, sym, ap}
+use Rattle.std.proofs.Common.{◌≡◌, List, ℕ, Option, Some, None, IfSome, option_map, sym}
 use Rattle.std.proofs.Common.{Result, Ok, Err, IfOk}
 use Rattle.load_run.specs.declared.scenario.TheConstants.{MOST_ROUNDS}
 use Rattle.command_words.specs.declared.words.Command.{Command}
 use Rattle.command_words.specs.declared.words.Command.TheVariants.{Replay, Decode, DecodePdu}
 use Rattle.command_words.specs.declared.words.Command.TheVariants.{Verify}
-use Rattle.command_words.specs.declared.words.Command.TheVariants.{Load}
+use Rattle.command_words.specs.declared.words.Command.TheVariants.{Load, Serve, Client}
 use Rattle.command_words.specs.Words.{IsLimited, loads, options_seen, replays, task_in, task_of}
+use Rattle.command_words.specs.Words.{serve_seen, serves}
 use Rattle.command_words.proofs.Forms.{has_form}
 use Rattle.command_words.proofs.OptionWords.{counted, options_lawful}
+use Rattle.command_words.proofs.ServeOptions.{served_lawful}
 
 command_limited : (command : Command) (words : List (List ℕ))
     → task_in words ≡ Some (task_of command) → IsLimited command
@@ -21,6 +23,10 @@ command_limited (Verify question) words e = tt
 command_limited (Load rounds) words e =
     let form = has_form words (loads rounds) e in
     (counted MOST_ROUNDS form.word rounds form.rounds_are).below
+command_limited (Serve served) words e =
+    let form = has_form words (serves (serve_seen served)) e in
+    served_lawful form.tables form.more (serve_seen served) form.task_is
+command_limited (Client played) words e = tt
 
 pub asked_limited : (command : Option Command) (words : List (List ℕ))
     → option_map task_of command ≡ task_in words → IfSome command IsLimited

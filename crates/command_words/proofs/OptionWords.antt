@@ -1,7 +1,7 @@
 -- The options of a replay, one by one.
 use Rattle.std.proofs.Common.{◌≡◌, ◌≤◌, ◌∙◌, ◌||◌, ◌⊎◌, inl, inr, ℕ, Bool, true, false, not, List}
 use Rattle.std.proofs.Common.{[], ◌∷◌}
-use Rattle.std.proofs.Common.{Option, Some, None, is_some, option_map, option_and_then, ap, sym}
+use Rattle.std.proofs.Common.{Some, None, is_some, option_map, option_and_then, ap, sym}
 use Rattle.std.proofs.Common.{refl}
 use Rattle.std.proofs.Common.{codes, bytes_eq, if◌then◌else◌, nat_le, subst, true≢false}
 use Rattle.std.proofs.Common.{leb-true, lit≤}

@@ -9,17 +9,21 @@ use Rattle.command_words.specs.declared.words.CommandKind.TheVariants as kind
 use Rattle.command_words.specs.Words.{Question, ReplayOptions, Task, decodes_pdu, lists_stream}
 use Rattle.command_words.specs.Words.{loads, replays}
 use Rattle.command_words.specs.Words.{rounds_in, task_in, verifies}
+use Rattle.command_words.specs.Words.{ClientTask, ServeTask, plays_client, serves}
 use Rattle.command_words.specs.Kinds.{kind_in, kind_of_task}
-use Rattle.command_words.specs.Matched.{decode_app, load_app, load_matched}
+use Rattle.command_words.specs.Matched.{client_app, client_matched, decode_app, load_app}
+use Rattle.command_words.specs.Matched.{load_matched, serve_app, serve_matched}
 use Rattle.command_words.specs.Matched.{replay_app, replay_matched, verify_app, verify_matched}
 use Rattle.command_words.proofs.Tests.{mapped, not_none}
-use Rattle.command_words.proofs.Forms.{AreLoad, ArePdu, AreReplay, AreStream, AreVerify, HasForm}
-use Rattle.command_words.proofs.Forms.{has_form}
+use Rattle.command_words.proofs.Forms.{AreClient, AreLoad, ArePdu, AreReplay, AreServe, AreStream}
+use Rattle.command_words.proofs.Forms.{AreVerify, HasForm, has_form}
 use Rattle.command_words.proofs.OptionWords.{counted}
 use Rattle.command_words.proofs.PlainWords.{plain_name, plain_number}
-use Rattle.command_words.proofs.DecodeRead.{pdu_seen, pdu_taken, seen, stream_seen, stream_taken}
+use Rattle.command_words.proofs.DecodeRead.{pdu_seen, pdu_taken, stream_seen, stream_taken}
+use Rattle.command_words.proofs.ClientRead.{client_read}
 use Rattle.command_words.proofs.LoadRead.{load_first, load_taken}
 use Rattle.command_words.proofs.ReplayRead.{replay_read}
+use Rattle.command_words.proofs.ServeRead.{serve_read}
 use Rattle.command_words.proofs.VerifyRead.{ArePlain, verify_asked, verify_taken}
 
 -- ---- `load`
@@ -117,6 +121,35 @@ replay_form tables scenario options words form =
     subst (λ (v : List (List ℕ)). ReplayReads v (Some (replays tables scenario options)))
     (sym form.words_are) (read.takes_them, read.asks_for)
 
+-- ---- `serve`
+
+abbrev ServeReads : List (List ℕ) → Option Task → Type 0
+ServeReads words task =
+    (takes serve_app words ≡ true) × (serve_matched (matches_of serve_app words) ≡ task)
+
+serve_form : (task : ServeTask) (words : List (List ℕ)) → AreServe task words
+    → ServeReads words (Some (serves task))
+serve_form task words form =
+    let read = serve_read form.tables (plain_name form.tables form.tables_name) task form.more
+    form.task_is in
+    subst (λ (v : List (List ℕ)). ServeReads v (Some (serves task))) (sym form.words_are)
+    (read.takes_them, ap (option_map serves) read.names)
+
+-- ---- `client`
+
+abbrev ClientReads : List (List ℕ) → Option Task → Type 0
+ClientReads words task =
+    (takes client_app words ≡ true) × (client_matched (matches_of client_app words) ≡ task)
+
+client_form : (task : ClientTask) (words : List (List ℕ)) → AreClient task words
+    → ClientReads words (Some (plays_client task))
+client_form task words form =
+    let read = client_read form.tables form.script form.more task
+    (plain_name form.tables form.tables_name) (plain_name form.script form.script_name)
+    form.task_is in
+    subst (λ (v : List (List ℕ)). ClientReads v (Some (plays_client task))) (sym form.words_are)
+    (read.takes_them, ap (option_map plays_client) read.names)
+
 -- ---- by the kind of the words
 
 -- the task of words of a kind
@@ -137,6 +170,8 @@ load_by words (lists_stream capture) e form = absurd cc
 load_by words (decodes_pdu capture) e form = absurd cc
 load_by words (verifies question) e form = absurd cc
 load_by words (loads rounds) e form = load_form rounds words form
+load_by words (serves task) e form = absurd cc
+load_by words (plays_client task) e form = absurd cc
 
 decode_by : (words : List (List ℕ)) (task : Task) → kind_of_task task ≡ kind.Decode
     → HasForm task words → DecodeReads words (Some task)
@@ -145,6 +180,8 @@ decode_by words (lists_stream capture) e form = stream_form capture words form
 decode_by words (decodes_pdu capture) e form = pdu_form capture words form
 decode_by words (verifies question) e form = absurd cc
 decode_by words (loads rounds) e form = absurd cc
+decode_by words (serves task) e form = absurd cc
+decode_by words (plays_client task) e form = absurd cc
 
 verify_by : (words : List (List ℕ)) (task : Task) → kind_of_task task ≡ kind.Verify
     → HasForm task words → VerifyReads words (Some task)
@@ -153,6 +190,8 @@ verify_by words (lists_stream capture) e form = absurd cc
 verify_by words (decodes_pdu capture) e form = absurd cc
 verify_by words (verifies question) e form = verify_form question words form
 verify_by words (loads rounds) e form = absurd cc
+verify_by words (serves task) e form = absurd cc
+verify_by words (plays_client task) e form = absurd cc
 
 replay_by : (words : List (List ℕ)) (task : Task) → kind_of_task task ≡ kind.Replay
     → HasForm task words → ReplayReads words (Some task)
@@ -162,6 +201,28 @@ replay_by words (lists_stream capture) e form = absurd cc
 replay_by words (decodes_pdu capture) e form = absurd cc
 replay_by words (verifies question) e form = absurd cc
 replay_by words (loads rounds) e form = absurd cc
+replay_by words (serves task) e form = absurd cc
+replay_by words (plays_client task) e form = absurd cc
+
+serve_by : (words : List (List ℕ)) (task : Task) → kind_of_task task ≡ kind.Serve
+    → HasForm task words → ServeReads words (Some task)
+serve_by words (replays tables scenario options) e form = absurd cc
+serve_by words (lists_stream capture) e form = absurd cc
+serve_by words (decodes_pdu capture) e form = absurd cc
+serve_by words (verifies question) e form = absurd cc
+serve_by words (loads rounds) e form = absurd cc
+serve_by words (serves task) e form = serve_form task words form
+serve_by words (plays_client task) e form = absurd cc
+
+client_by : (words : List (List ℕ)) (task : Task) → kind_of_task task ≡ kind.Client
+    → HasForm task words → ClientReads words (Some task)
+client_by words (replays tables scenario options) e form = absurd cc
+client_by words (lists_stream capture) e form = absurd cc
+client_by words (decodes_pdu capture) e form = absurd cc
+client_by words (verifies question) e form = absurd cc
+client_by words (loads rounds) e form = absurd cc
+client_by words (serves task) e form = absurd cc
+client_by words (plays_client task) e form = client_form task words form
 
 pub load_reads : (words : List (List ℕ)) → kind_in words ≡ Some kind.Load
     → LoadReads words (task_in words)
@@ -190,6 +251,20 @@ replay_reads words e =
     let h = has_task words kind.Replay e in
     subst (ReplayReads words) (sym h.asked)
     (replay_by words h.task h.of_kind (has_form words h.task h.asked))
+
+pub serve_reads : (words : List (List ℕ)) → kind_in words ≡ Some kind.Serve
+    → ServeReads words (task_in words)
+serve_reads words e =
+    let h = has_task words kind.Serve e in
+    subst (ServeReads words) (sym h.asked)
+    (serve_by words h.task h.of_kind (has_form words h.task h.asked))
+
+pub client_reads : (words : List (List ℕ)) → kind_in words ≡ Some kind.Client
+    → ClientReads words (task_in words)
+client_reads words e =
+    let h = has_task words kind.Client e in
+    subst (ClientReads words) (sym h.asked)
+    (client_by words h.task h.of_kind (has_form words h.task h.asked))
 
 -- words of a kind ask for a task
 pub kind_asks : (words : List (List ℕ)) (k : CommandKind) → kind_in words ≡ Some k

@@ -10,7 +10,7 @@ use Rattle.clap.specs.Takes.{level_passes, settle_passes, step_passes, takes, tu
 use Rattle.clap.specs.Takes.{walk_passes}
 use Rattle.clap.specs.Walk.{Held, Rule, Step, Text, Walk, after_step, arg_by_index, finished}
 use Rattle.clap.specs.Walk.{idle, long_or_other, nothing_held, option, plain_word, rows_after}
-use Rattle.clap.specs.Walk.{short_or_plain, to_positional, trailing, value, walk, walk_from, walked}
+use Rattle.clap.specs.Walk.{short_or_plain, to_positional, trailing, value, walk_from, walked}
 use Rattle.clap.specs.Walk.{word_met}
 use Rattle.clap.proofs.TakesLemmas.{leaf_takes}
 use Rattle.command_words.proofs.PlainWords.{IsPlainWord}

@@ -3,9 +3,11 @@ use Rattle.std.specs.Prelude.{List, [], ◌∷◌, ℕ, ◌^◌, ◌-◌, Option
 use Rattle.std.specs.Prelude.{false, ◌&&◌, ◌||◌, bytes_eq, codes}
 use Rattle.command_words.specs.declared.words.CommandKind.{CommandKind}
 use Rattle.command_words.specs.declared.words.CommandKind.TheVariants as kind
+use Rattle.command_words.specs.declared.words.ServerOptions.{ServerOptions}
 use Rattle.plain_text.specs.Numbers.{number_up_to}
 use Rattle.command_words.specs.Words.{Task, task_in, replays, lists_stream, decodes_pdu, verifies}
-use Rattle.command_words.specs.Words.{are_file_names, is_journal_name, limit_in, loads}
+use Rattle.command_words.specs.Words.{are_file_names, is_journal_name, limit_in, loads, serves}
+use Rattle.command_words.specs.Words.{ServeOptions, is_connect, plays_client}
 
 -- the command that asks for it
 abbrev pub kind_of_task : Task → CommandKind
@@ -14,6 +16,8 @@ kind_of_task (lists_stream capture) = kind.Decode
 kind_of_task (decodes_pdu capture) = kind.Decode
 kind_of_task (verifies question) = kind.Verify
 kind_of_task (loads rounds) = kind.Load
+kind_of_task (serves task) = kind.Serve
+kind_of_task (plays_client task) = kind.Client
 
 -- `--limit N`
 abbrev pub is_limit : List ℕ → List ℕ → Bool
@@ -40,6 +44,19 @@ abbrev pub is_question : List (List ℕ) → Bool
 is_question (peer ∷ ordinal ∷ given ∷ sent ∷ []) =
     are_file_names peer given sent && is_some (number_up_to (2 ^ 64 - 1) ordinal)
 is_question words = false
+
+-- `--connect ADDRESS`, and nothing behind it
+abbrev pub are_connect : List (List ℕ) → Bool
+are_connect (option ∷ word ∷ []) = is_connect option word
+are_connect words = false
+
+-- what contracts see of the options of a server that were read
+abbrev pub given_seen : ServerOptions → ServeOptions
+given_seen given = record {
+  limit = given.limit;
+  journal = option_map (λ name. name.now) given.journal;
+  address = option_map (λ name. name.now) given.address;
+}
 
 -- the command that words are, where they are one
 abbrev pub kind_in : List (List ℕ) → Option CommandKind

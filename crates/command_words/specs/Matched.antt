@@ -5,7 +5,8 @@ use Rattle.clap.specs.declared.builder.action.ArgAction.TheVariants.{SetTrue}
 use Rattle.clap.specs.Words.{App, Row, Rule, Text, first_of, new_app, new_rule, with_rule}
 use Rattle.plain_text.specs.Numbers.{number_up_to}
 use Rattle.command_words.specs.Words.{Question, ReplayOptions, Task, limit_in, loads, replays}
-use Rattle.command_words.specs.Words.{rounds_in, verifies}
+use Rattle.command_words.specs.Words.{ClientTask, ServeTask, plays_client, rounds_in, serves}
+use Rattle.command_words.specs.Words.{verifies}
 
 -- a word at its place, which must be there
 abbrev pub positional_rule : Text → Rule
@@ -52,6 +53,19 @@ verify_app = with_positional (codes "OUT")
 abbrev pub load_app : App
 load_app = with_positional (codes "N") (new_app (codes "load"))
 
+-- `serve TABLES`, with `--limit N`, `--journal FILE` and `--listen ADDRESS` behind it
+abbrev pub serve_app : App
+serve_app = with_option (codes "listen")
+    (with_option (codes "journal")
+    (with_option (codes "limit")
+    (with_positional (codes "TABLES") (new_app (codes "serve")))))
+
+-- `client TABLES SCRIPT`, with `--connect ADDRESS` behind it
+abbrev pub client_app : App
+client_app = with_option (codes "connect")
+    (with_positional (codes "SCRIPT")
+    (with_positional (codes "TABLES") (new_app (codes "client"))))
+
 -- the limit that a word gives, where there is one
 abbrev pub limit_matched : Option Text → Option (Option ℕ)
 limit_matched None = Some None
@@ -92,3 +106,27 @@ verify_matched rows = option_map verifies (question_matched rows)
 
 abbrev pub load_matched : List Row → Option Task
 load_matched rows = option_map loads (option_and_then rounds_in (first_of (codes "N") rows))
+
+-- what a server is to serve
+abbrev pub served_matched : List Row → Option ServeTask
+served_matched rows = option_and_then (λ tables. option_and_then (λ journal.
+    option_and_then (λ address. option_map (λ limit. record {
+      tables = tables;
+      journal = journal;
+      address = address;
+      limit = limit;
+    }) (limit_matched (first_of (codes "limit") rows))) (first_of (codes "listen") rows))
+    (first_of (codes "journal") rows)) (first_of (codes "TABLES") rows)
+
+abbrev pub serve_matched : List Row → Option Task
+serve_matched rows = option_map serves (served_matched rows)
+
+-- what a client is to play
+abbrev pub played_matched : List Row → Option ClientTask
+played_matched rows = option_and_then (λ tables. option_and_then (λ script.
+    option_map (λ address. record { tables = tables; script = script; address = address })
+    (first_of (codes "connect") rows)) (first_of (codes "SCRIPT") rows))
+    (first_of (codes "TABLES") rows)
+
+abbrev pub client_matched : List Row → Option Task
+client_matched rows = option_map plays_client (played_matched rows)

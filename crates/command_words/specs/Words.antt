@@ -8,10 +8,12 @@ use Rattle.load_run.specs.declared.scenario.TheConstants.{MOST_ROUNDS}
 use Rattle.command_words.specs.declared.words.TheConstants.{HISTORY_LIMIT, MOST_LIMIT}
 use Rattle.command_words.specs.declared.words.Options.{Options}
 use Rattle.command_words.specs.declared.words.Question.{Question as Questions}
+use Rattle.command_words.specs.declared.words.ServeWords.{ServeWords}
+use Rattle.command_words.specs.declared.words.ClientWords.{ClientWords}
 use Rattle.command_words.specs.declared.words.Command.{Command}
 use Rattle.command_words.specs.declared.words.Command.TheVariants.{Replay, Decode, DecodePdu}
 use Rattle.command_words.specs.declared.words.Command.TheVariants.{Verify}
-use Rattle.command_words.specs.declared.words.Command.TheVariants.{Load}
+use Rattle.command_words.specs.declared.words.Command.TheVariants.{Load, Serve, Client}
 
 -- the octets that a history may weigh, and the file for its journal, where they are given
 pub record ReplayOptions : Type 0 where
@@ -50,6 +52,38 @@ question_seen question = record {
   sent = question.sent.now;
 }
 
+-- the tables that a server serves, the file for its journal, the address to listen at, and the
+-- octets that its history may weigh, where they are given
+pub record ServeTask : Type 0 where
+  pub tables : List ℕ
+  pub journal : List ℕ
+  pub address : List ℕ
+  pub limit : Option ℕ
+
+abbrev pub served_limit : ServeTask → ℕ
+served_limit task = unwrap_or task.limit HISTORY_LIMIT
+
+abbrev pub serve_seen : ServeWords → ServeTask
+serve_seen words = record {
+  tables = words.tables.now;
+  journal = words.journal.now;
+  address = words.address.now;
+  limit = words.limit;
+}
+
+-- the tables of a client, its script, and the address of the node that it connects to
+pub record ClientTask : Type 0 where
+  pub tables : List ℕ
+  pub script : List ℕ
+  pub address : List ℕ
+
+abbrev pub client_seen : ClientWords → ClientTask
+client_seen words = record {
+  tables = words.tables.now;
+  script = words.script.now;
+  address = words.address.now;
+}
+
 -- what words ask for
 pub data Task : Type 0 where
   -- the scenario under the second name is played over the tables under the first, as options say
@@ -62,6 +96,10 @@ pub data Task : Type 0 where
   verifies : Question → Task
   -- the scenario of the load run with so many rounds is played over its tables, and counted
   loads : ℕ → Task
+  -- tables are served to whoever connects
+  serves : ServeTask → Task
+  -- the script of a client is played over a connection to another node
+  plays_client : ClientTask → Task
 
 -- what a command asks for
 abbrev pub task_of : Command → Task
@@ -71,11 +109,18 @@ task_of (Decode capture) = lists_stream capture.now
 task_of (DecodePdu capture) = decodes_pdu capture.now
 task_of (Verify question) = verifies (question_seen question)
 task_of (Load rounds) = loads rounds
+task_of (Serve words) = serves (serve_seen words)
+task_of (Client words) = plays_client (client_seen words)
 
 -- a limit that a history may have, and a journal that isn't standard output
 pub record AreOptions (options : ReplayOptions) : Type 0 where
   pub limit : limit_of options ≤ MOST_LIMIT
   pub journal : IfSome options.journal (λ name. bytes_eq name (codes "-") ≡ false)
+
+-- a limit that a history may have, and a file for the journal that isn't standard output
+pub record IsServed (task : ServeTask) : Type 0 where
+  pub limit : served_limit task ≤ MOST_LIMIT
+  pub journal : bytes_eq task.journal (codes "-") ≡ false
 
 abbrev pub IsLimited : Command → Type 0
 IsLimited (Replay tables scenario options) = AreOptions (options_seen options)
@@ -83,6 +128,8 @@ IsLimited (Decode capture) = Unit {0}
 IsLimited (DecodePdu capture) = Unit {0}
 IsLimited (Verify question) = Unit {0}
 IsLimited (Load rounds) = rounds ≤ MOST_ROUNDS
+IsLimited (Serve words) = IsServed (serve_seen words)
+IsLimited (Client words) = Unit {0}
 
 -- a name of a file: not empty, and beginning with `-` only where it is `-`, which is standard input
 abbrev pub is_file_name : List ℕ → Bool
@@ -184,17 +231,96 @@ question_of tables journal (peer ∷ ordinal ∷ given ∷ sent ∷ []) =
     question_in tables journal peer ordinal given sent
 question_of tables journal words = None
 
--- `replay TABLES SCENARIO` and its options, `decode --pdu IN`, or
--- `verify TABLES JOURNAL KEY ORDINAL IN OUT`
+-- an address: as the name of a file, but not `-`
+abbrev pub is_address : List ℕ → Bool
+is_address word = is_journal_name word
+
+-- what options of a server give
+pub record ServeOptions : Type 0 where
+  pub limit : Option ℕ
+  pub journal : Option (List ℕ)
+  pub address : Option (List ℕ)
+
+-- no option of a server
+abbrev pub nothing_given : ServeOptions
+nothing_given = record { limit = None; journal = None; address = None }
+
+-- `--limit N`, `--journal FILE` or `--listen ADDRESS` behind options, each once at most
+abbrev pub serve_limit : List ℕ → ServeOptions → Option ServeOptions
+serve_limit word given = if is_some given.limit then None
+    else option_map (λ limit. record given { limit = Some limit }) (limit_in word)
+
+abbrev pub serve_journal : List ℕ → ServeOptions → Option ServeOptions
+serve_journal word given = if is_some given.journal || not (is_journal_name word) then None
+    else Some (record given { journal = Some word })
+
+abbrev pub serve_address : List ℕ → ServeOptions → Option ServeOptions
+serve_address word given = if is_some given.address || not (is_address word) then None
+    else Some (record given { address = Some word })
+
+abbrev pub serve_option : List ℕ → List ℕ → ServeOptions → Option ServeOptions
+serve_option option word given =
+    if bytes_eq option (codes "--limit") then serve_limit word given
+    else (if bytes_eq option (codes "--journal") then serve_journal word given
+    else (if bytes_eq option (codes "--listen") then serve_address word given else None))
+
+-- the options of a server behind these, in any order
+abbrev pub serve_options : List (List ℕ) → ServeOptions → Option ServeOptions
+serve_options [] given = Some given
+serve_options (option ∷ word ∷ more) given =
+    option_and_then (serve_options more) (serve_option option word given)
+serve_options words given = None
+
+-- a journal and an address must be among them
+abbrev pub serve_asked : List ℕ → ServeOptions → Option ServeTask
+serve_asked tables given = option_and_then (λ journal. option_map (λ address. record {
+  tables = tables;
+  journal = journal;
+  address = address;
+  limit = given.limit;
+}) given.address) given.journal
+
+abbrev pub serve_in : List ℕ → List (List ℕ) → Option ServeTask
+serve_in tables words = option_and_then (serve_asked tables) (serve_options words nothing_given)
+
+-- `serve TABLES`
+abbrev pub is_serve : List ℕ → List ℕ → Bool
+is_serve verb tables = bytes_eq verb (codes "serve") && is_file_name tables
+
+-- `client TABLES SCRIPT`
+abbrev pub is_client : List ℕ → List ℕ → List ℕ → Bool
+is_client verb tables script =
+    bytes_eq verb (codes "client") && is_file_name tables && is_file_name script
+
+-- `--connect ADDRESS`
+abbrev pub is_connect : List ℕ → List ℕ → Bool
+is_connect option word = bytes_eq option (codes "--connect") && is_address word
+
+-- and nothing behind it
+abbrev pub client_in : List ℕ → List ℕ → List (List ℕ) → Option ClientTask
+client_in tables script (option ∷ word ∷ []) =
+    if is_connect option word
+    then Some (record { tables = tables; script = script; address = word }) else None
+client_in tables script words = None
+
+-- `replay TABLES SCENARIO` and its options, `decode --pdu IN`,
+-- `verify TABLES JOURNAL KEY ORDINAL IN OUT`, or `client TABLES SCRIPT --connect ADDRESS`
 abbrev pub task_in_three : List ℕ → List ℕ → List ℕ → List (List ℕ) → Option Task
 task_in_three first second third more =
     if is_replay first second third then option_map (replays second third) (options_in more)
     else (if is_decode_pdu first second third then pdu_task_in third more
     else (if is_verify first second third
-    then option_map verifies (question_of second third more) else None))
+    then option_map verifies (question_of second third more)
+    else (if is_client first second third
+    then option_map plays_client (client_in second third more) else None)))
 
--- no other words are a command
+-- one of the above
+abbrev pub task_behind : List ℕ → List ℕ → List (List ℕ) → Option Task
+task_behind first second [] = task_in_two first second
+task_behind first second (third ∷ more) = task_in_three first second third more
+
+-- `serve TABLES` and its options, or one of the above; no other words are a command
 abbrev pub task_in : List (List ℕ) → Option Task
-task_in (first ∷ second ∷ []) = task_in_two first second
-task_in (first ∷ second ∷ third ∷ more) = task_in_three first second third more
+task_in (first ∷ second ∷ more) = if is_serve first second
+    then option_map serves (serve_in second more) else task_behind first second more
 task_in words = None

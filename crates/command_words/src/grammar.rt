@@ -1,10 +1,12 @@
 //! The grammar of the words of commands, as a test.
 ghost use Rattle.std.specs.Prelude.{◌≡◌, ℕ, List, [], ◌∷◌, map, string_bytes, is_some, option_map};
-ghost use Rattle.command_words.specs.Kinds.{kind_in, kind_of_task};
+ghost use Rattle.std.specs.Prelude.{if◌then◌else◌};
+ghost use Rattle.command_words.specs.Kinds.{given_seen, kind_in, kind_of_task};
+ghost use Rattle.command_words.specs.Words.{serve_seen, serves};
 ghost use Rattle.command_words.specs.Kinds as kinds;
 ghost use Rattle.command_words.specs.Words as own;
 
-use crate::words::{CommandKind, read_limit, read_rounds};
+use crate::words::{CommandKind, ServeWords, ServerOptions, read_limit, read_rounds};
 use plain_text::read_number;
 
 // Whether a word is the name of a file: not empty, and beginning with `-` only where it is `-`.
@@ -111,6 +113,154 @@ fn is_question(words: &[String]) -> bool
     }
 }
 
+// Whether words are `serve TABLES`.
+fn is_serve(verb: &str, tables: &str) -> bool
+    ensures { result ≡ own.is_serve verb.now tables.now }
+{
+    verb == "serve" && is_name(tables)
+}
+
+// Whether words are `client TABLES SCRIPT`.
+fn is_client(verb: &str, tables: &str, script: &str) -> bool
+    ensures { result ≡ own.is_client verb.now tables.now script.now }
+{
+    verb == "client" && is_name(tables) && is_name(script)
+}
+
+// Whether a word is an address.
+fn is_address(word: &str) -> bool
+    ensures { result ≡ own.is_address word.now }
+{
+    is_journal_name(word)
+}
+
+// Whether two words are the address to connect to.
+fn is_connect(option: &str, word: &str) -> bool
+    ensures { result ≡ own.is_connect option.now word.now }
+{
+    option == "--connect" && is_address(word)
+}
+
+// Whether words are the address to connect to, and nothing else.
+fn are_connect(words: &[String]) -> bool
+    ensures { result ≡ kinds.are_connect (map string_bytes words.now) }
+{
+    match words {
+        [option, word] => is_connect(option.as_str(), word.as_str()),
+        _ => false,
+    }
+}
+
+// A limit behind options of a server.
+fn with_limit<'a>(word: &str, given: ServerOptions<'a>) -> Option<ServerOptions<'a>>
+    ensures { option_map given_seen result ≡ own.serve_limit word.now (given_seen given.entry) }
+{
+    if given.limit.is_some() {
+        return None;
+    }
+    let limit = read_limit(word)?;
+    Some(ServerOptions {
+        limit: Some(limit),
+        journal: given.journal,
+        address: given.address,
+    })
+}
+
+// A journal behind options of a server.
+fn with_journal<'a>(word: &'a str, given: ServerOptions<'a>) -> Option<ServerOptions<'a>>
+    ensures { option_map given_seen result ≡ own.serve_journal word.now (given_seen given.entry) }
+{
+    if given.journal.is_some() || !is_journal_name(word) {
+        return None;
+    }
+    Some(ServerOptions {
+        limit: given.limit,
+        journal: Some(word),
+        address: given.address,
+    })
+}
+
+// An address behind options of a server.
+fn with_address<'a>(word: &'a str, given: ServerOptions<'a>) -> Option<ServerOptions<'a>>
+    ensures { option_map given_seen result ≡ own.serve_address word.now (given_seen given.entry) }
+{
+    if given.address.is_some() || !is_address(word) {
+        return None;
+    }
+    Some(ServerOptions {
+        limit: given.limit,
+        journal: given.journal,
+        address: Some(word),
+    })
+}
+
+// One more option of a server behind others.
+fn serve_option<'a>(
+    option: &str,
+    word: &'a str,
+    given: ServerOptions<'a>,
+) -> Option<ServerOptions<'a>>
+    ensures { option_map given_seen result
+        ≡ own.serve_option option.now word.now (given_seen given.entry) }
+{
+    if option == "--limit" {
+        return with_limit(word, given);
+    }
+    if option == "--journal" {
+        return with_journal(word, given);
+    }
+    if option == "--listen" {
+        return with_address(word, given);
+    }
+    None
+}
+
+// The options of a server behind others.
+fn serve_options<'a>(words: &'a [String], given: ServerOptions<'a>) -> Option<ServerOptions<'a>>
+    ensures { option_map given_seen result
+        ≡ own.serve_options (map string_bytes words.entry.now) (given_seen given.entry) }
+{
+    match words {
+        [] => Some(given),
+        [option, word, more @ ..] => {
+            let next = serve_option(option.as_str(), word.as_str(), given)?;
+            serve_options(more, next)
+        }
+        _ => None,
+    }
+}
+
+// What a server is to serve, by the words behind `serve TABLES`.
+fn serve_in<'a>(tables: &'a str, words: &'a [String]) -> Option<ServeWords<'a>>
+    ensures { option_map serve_seen result
+        ≡ own.serve_in tables.entry.now (map string_bytes words.entry.now) }
+{
+    let nothing = ServerOptions {
+        limit: None,
+        journal: None,
+        address: None,
+    };
+    let given = serve_options(words, nothing)?;
+    let journal = given.journal?;
+    let address = given.address?;
+    Some(ServeWords {
+        tables,
+        journal,
+        address,
+        limit: given.limit,
+    })
+}
+
+// The command that the words behind `serve TABLES` are.
+fn kind_of_serve(tables: &str, words: &[String]) -> Option<CommandKind>
+    ensures { result ≡ option_map kind_of_task
+        (option_map serves (own.serve_in tables.now (map string_bytes words.now))) }
+{
+    serve_in(tables, words)
+        .is_some()
+        .then_some(CommandKind::Serve)
+}
+
 // The command that two words are.
 fn kind_of_two(first: &str, second: &str) -> Option<CommandKind>
     ensures { result ≡ option_map kind_of_task (own.task_in_two first.now second.now) }
@@ -138,7 +288,34 @@ fn kind_of_three(first: &str, second: &str, third: &str, more: &[String]) -> Opt
     if is_verify(first, second, third) {
         return is_question(more).then_some(CommandKind::Verify);
     }
+    if is_client(first, second, third) {
+        return are_connect(more).then_some(CommandKind::Client);
+    }
     None
+}
+
+// The command that two words and more behind them are, where it isn't `serve`.
+fn kind_behind(first: &str, second: &str, more: &[String]) -> Option<CommandKind>
+    ensures { result ≡ option_map kind_of_task
+        (own.task_behind first.now second.now (map string_bytes more.now)) }
+{
+    match more {
+        [] => kind_of_two(first, second),
+        [third, more @ ..] => kind_of_three(first, second, third.as_str(), more),
+    }
+}
+
+// The command that two words and more behind them are.
+fn kind_by_verb(first: &str, second: &str, more: &[String]) -> Option<CommandKind>
+    ensures { let words = map string_bytes more.now in result ≡ option_map kind_of_task
+        (if own.is_serve first.now second.now
+        then option_map serves (own.serve_in second.now words)
+        else own.task_behind first.now second.now words) }
+{
+    if is_serve(first, second) {
+        return kind_of_serve(second, more);
+    }
+    kind_behind(first, second, more)
 }
 
 /// The command that words are; nothing where they are none.
@@ -146,10 +323,7 @@ pub(crate) fn kind_of_words(words: &[String]) -> Option<CommandKind>
     ensures { result ≡ kind_in (map string_bytes words.now) }
 {
     match words {
-        [first, second] => kind_of_two(first.as_str(), second.as_str()),
-        [first, second, third, more @ ..] => {
-            kind_of_three(first.as_str(), second.as_str(), third.as_str(), more)
-        }
+        [first, second, more @ ..] => kind_by_verb(first.as_str(), second.as_str(), more),
         _ => None,
     }
 }

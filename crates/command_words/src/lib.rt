@@ -7,4 +7,4 @@ mod reading;
 mod words;
 
 pub use reading::read_command;
-pub use words::{Command, HISTORY_LIMIT, Options, Question};
+pub use words::{ClientWords, Command, HISTORY_LIMIT, Options, Question, ServeWords};

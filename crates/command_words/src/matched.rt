@@ -5,11 +5,13 @@ ghost use Rattle.clap.specs.Words.{app_of, first_of, found_of, kind_of, matches_
 ghost use Rattle.clap.specs.Words.{rows_of, takes};
 ghost use Rattle.clap.specs.declared.error.kind.ErrorKind.TheVariants.{OutOfMemory};
 ghost use Rattle.command_words.specs.Words.{decodes_pdu, lists_stream, options_seen, question_seen};
-ghost use Rattle.command_words.specs.Words.{task_in, task_of};
+ghost use Rattle.command_words.specs.Words.{task_in, task_of, serve_seen, client_seen};
 ghost use Rattle.command_words.specs.Kinds.{kind_in};
 ghost use Rattle.command_words.specs.Matched as own;
 
-use crate::words::{Command, CommandKind, Options, Question, read_limit, read_rounds};
+use crate::words::{
+    ClientWords, Command, CommandKind, Options, Question, ServeWords, read_limit, read_rounds,
+};
 use clap::{Arg, ArgAction, ArgMatches};
 use plain_text::read_number;
 use std::alloc::{AllocError, Global};
@@ -80,6 +82,27 @@ fn load_command<'a>(alloc: Global) -> Result<clap::Command<'a>, AllocError>
     ensures { IfOk result (λ command. app_of command ≡ own.load_app) }
 {
     with_positional(alloc, "N", clap::Command::new(alloc, "load"))
+}
+
+// `serve TABLES`, with `--limit N`, `--journal FILE` and `--listen ADDRESS` behind it.
+fn serve_command<'a>(alloc: Global) -> Result<clap::Command<'a>, AllocError>
+    ensures { IfOk result (λ command. app_of command ≡ own.serve_app) }
+{
+    let command = clap::Command::new(alloc, "serve");
+    let command = with_positional(alloc, "TABLES", command)?;
+    let command = with_option(alloc, "limit", command)?;
+    let command = with_option(alloc, "journal", command)?;
+    with_option(alloc, "listen", command)
+}
+
+// `client TABLES SCRIPT`, with `--connect ADDRESS` behind it.
+fn client_command<'a>(alloc: Global) -> Result<clap::Command<'a>, AllocError>
+    ensures { IfOk result (λ command. app_of command ≡ own.client_app) }
+{
+    let command = clap::Command::new(alloc, "client");
+    let command = with_positional(alloc, "TABLES", command)?;
+    let command = with_positional(alloc, "SCRIPT", command)?;
+    with_option(alloc, "connect", command)
 }
 
 // The want of memory that `clap` tells: over words of its command it tells nothing else.
@@ -212,6 +235,52 @@ fn load_of<'a>(matches: &ArgMatches<'a>) -> Option<Command<'a>>
     Some(Command::Load { rounds })
 }
 
+// What the matches of `serve` name.
+fn served_of<'a>(matches: &ArgMatches<'a>) -> Option<ServeWords<'a>>
+    ensures { option_map serve_seen result ≡ own.served_matched (rows_of (found_of matches.now)) }
+{
+    let tables = word_of(matches, "TABLES")?;
+    let journal = word_of(matches, "journal")?;
+    let address = word_of(matches, "listen")?;
+    let most = limit_of(word_of(matches, "limit"))?;
+    Some(ServeWords {
+        tables,
+        journal,
+        address,
+        limit: most,
+    })
+}
+
+// What the matches of `serve` ask for.
+fn serve_of<'a>(matches: &ArgMatches<'a>) -> Option<Command<'a>>
+    ensures { option_map task_of result ≡ own.serve_matched (rows_of (found_of matches.now)) }
+{
+    let words = served_of(matches)?;
+    Some(Command::Serve { words })
+}
+
+// What the matches of `client` name.
+fn played_of<'a>(matches: &ArgMatches<'a>) -> Option<ClientWords<'a>>
+    ensures { option_map client_seen result ≡ own.played_matched (rows_of (found_of matches.now)) }
+{
+    let tables = word_of(matches, "TABLES")?;
+    let script = word_of(matches, "SCRIPT")?;
+    let address = word_of(matches, "connect")?;
+    Some(ClientWords {
+        tables,
+        script,
+        address,
+    })
+}
+
+// What the matches of `client` ask for.
+fn client_of<'a>(matches: &ArgMatches<'a>) -> Option<Command<'a>>
+    ensures { option_map task_of result ≡ own.client_matched (rows_of (found_of matches.now)) }
+{
+    let words = played_of(matches)?;
+    Some(Command::Client { words })
+}
+
 /// What words of `replay` ask for.
 pub(crate) fn read_replay<'a>(
     alloc: Global,
@@ -266,4 +335,32 @@ pub(crate) fn read_load<'a>(
     let command = load_command(alloc)?;
     let matches = matches_in(command, words)?;
     Ok(load_of(&matches))
+}
+
+/// What words of `serve` ask for.
+pub(crate) fn read_serve<'a>(
+    alloc: Global,
+    words: &'a [String],
+) -> Result<Option<Command<'a>>, AllocError>
+    requires { kind_in (map string_bytes words.now) ≡ Some CommandKind.Serve }
+    ensures { IfOk result (λ command. option_map task_of command
+        ≡ task_in (map string_bytes words.entry.now)) }
+{
+    let command = serve_command(alloc)?;
+    let matches = matches_in(command, words)?;
+    Ok(serve_of(&matches))
+}
+
+/// What words of `client` ask for.
+pub(crate) fn read_client<'a>(
+    alloc: Global,
+    words: &'a [String],
+) -> Result<Option<Command<'a>>, AllocError>
+    requires { kind_in (map string_bytes words.now) ≡ Some CommandKind.Client }
+    ensures { IfOk result (λ command. option_map task_of command
+        ≡ task_in (map string_bytes words.entry.now)) }
+{
+    let command = client_command(alloc)?;
+    let matches = matches_in(command, words)?;
+    Ok(client_of(&matches))
 }

@@ -5,7 +5,7 @@ ghost use Rattle.command_words.specs.Kinds.{kind_in};
 ghost use Rattle.command_words.specs.Words.{task_of, task_in, IsLimited};
 
 use crate::grammar::kind_of_words;
-use crate::matched::{read_decode, read_load, read_replay, read_verify};
+use crate::matched::{read_client, read_decode, read_load, read_replay, read_serve, read_verify};
 use crate::words::{Command, CommandKind};
 use std::alloc::{AllocError, Global};
 
@@ -43,5 +43,7 @@ fn read_of_kind<'a>(
         CommandKind::Decode => read_decode(alloc, words),
         CommandKind::Verify => read_verify(alloc, words),
         CommandKind::Load => read_load(alloc, words),
+        CommandKind::Serve => read_serve(alloc, words),
+        CommandKind::Client => read_client(alloc, words),
     }
 }

@@ -52,6 +52,47 @@ pub struct Question<'a> {
     pub sent: &'a str,
 }
 
+/// What a server is to serve.
+#[derive(Clone, Copy)]
+pub struct ServeWords<'a> {
+    /// The file of the tables.
+    pub tables: &'a str,
+    /// The file to which the history is written at the end.
+    pub journal: &'a str,
+    /// The address to listen at.
+    pub address: &'a str,
+    /// `--limit N`: the octets that the history may weigh.
+    pub limit: Option<u64>,
+}
+
+impl<'a> ServeWords<'a> {
+    /// The octets that the history may weigh.
+    pub fn limit(&self) -> u64
+        ensures { result ≡ own.served_limit (own.serve_seen self.now) }
+    {
+        self.limit.unwrap_or(HISTORY_LIMIT)
+    }
+}
+
+/// What a client is to play.
+#[derive(Clone, Copy)]
+pub struct ClientWords<'a> {
+    /// The file of the tables.
+    pub tables: &'a str,
+    /// The file of the script.
+    pub script: &'a str,
+    /// The address of the node to connect to.
+    pub address: &'a str,
+}
+
+/// The options of a server that were read so far.
+#[derive(Clone, Copy)]
+pub(crate) struct ServerOptions<'a> {
+    pub(crate) limit: Option<u64>,
+    pub(crate) journal: Option<&'a str>,
+    pub(crate) address: Option<&'a str>,
+}
+
 /// The commands.
 #[derive(Clone, Copy)]
 pub(crate) enum CommandKind {
@@ -59,6 +100,8 @@ pub(crate) enum CommandKind {
     Decode,
     Verify,
     Load,
+    Serve,
+    Client,
 }
 
 /// What words ask for.
@@ -86,6 +129,16 @@ pub enum Command<'a> {
     /// `load N`: the scenario of the load run with so many rounds is played, and counted.
     Load {
         rounds: u64,
+    },
+    /// `serve TABLES --journal FILE --listen ADDRESS`, and perhaps a limit: tables are served to
+    /// whoever connects.
+    Serve {
+        words: ServeWords<'a>,
+    },
+    /// `client TABLES SCRIPT --connect ADDRESS`: the script is played over a connection to another
+    /// node.
+    Client {
+        words: ClientWords<'a>,
     },
 }
 
