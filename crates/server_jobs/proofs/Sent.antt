@@ -1,4 +1,4 @@
--- A job may go to another thread. It is shown from the inside out, since a `search` for all of it
+-- A job may go to another thread, and what comes of it. It is shown from the inside out, since a `search` for all of it
 -- at once comes to its limit.
 use denote.RattleType.{RattleType}
 use denote.Param.Send.{IsSend, sendable}
@@ -10,6 +10,7 @@ use Rattle.share_turn.proofs.shared.Shared.TheSendSync as shared
 use Rattle.share_turn.proofs.shared.Seat.TheSendSync as seat
 use Rattle.node_turn.proofs.Sent.{turn_send}
 use Rattle.server_jobs.specs.contracts.parts.JobParts as parts
+use Rattle.server_jobs.specs.contracts.done.NodeDone as done
 use Rattle.server_jobs.specs.contracts.job.NodeJob as job
 use Rattle.server_jobs.specs.contracts.job.NodeJob.TheInside as inside
 
@@ -55,3 +56,24 @@ module _ (L S C : RattleType) (link : IsSend L) (source : IsSend S) (clock : IsS
 
   pub job_send : IsSend (job.the_row L S C)
   job_send = search (inside_send, sendable)
+
+  pub done_send : IsSend (done.the_row L S C)
+  done_send = variants_send (done.enum L S C) (
+    (
+      search (turn_send, seat.the_send, sendable, crosses) depth 20,
+      (as_row_send (row_field L) link, (search (sendable, crosses) depth 20, tt)),
+    ),
+    (
+      (
+        search (turn_send, seat.the_send, sendable, crosses) depth 20,
+        (as_row_send (row_field S) source, (search (sendable, crosses) depth 20, tt)),
+      ),
+      (
+        (
+          search (turn_send, seat.the_send, sendable, crosses) depth 20,
+          (as_row_send (row_field C) clock, (search (sendable, crosses) depth 20, tt)),
+        ),
+        tt,
+      ),
+    ),
+  )

@@ -10,9 +10,10 @@ ghost use Rattle.server_run.specs.Accepting.{IsLinkInput, RetiresUnserved};
 
 use crate::seats::LinkSeats;
 use crate::starting::{JobInput, Starter};
+use job_threads::ThreadSpawner;
 use node_turn::TurnNode;
 use outside::Source;
-use outside_links::{Accept, Clock, Link, Listener, Spawner, Start};
+use outside_links::{Accept, Clock, Link, Listener, Start};
 use server_jobs::NodeJob;
 use share_turn::Seat;
 use std::sync::Wait;
@@ -36,23 +37,29 @@ pub enum Accepted {
     Memory,
 }
 
-impl<'a, R: Threads + Wait> Starter<'a, R> {
+impl<'a, R: Threads + Wait + Copy + Send + 'static> Starter<'a, R> {
     /// Takes a link, where one is given, and starts a job that serves it. Room for its seat is
     /// taken before.
-    pub fn accept_once<N: Listener, S: Source, C: Clock, P: Spawner<NodeJob<N::Link, S, C>>>(
+    pub fn accept_once<
+        N: Listener,
+        S: Source + Send + Drop + 'static,
+        C: Clock + Send + Drop + 'static,
+    >(
         &self,
         seat: &mut Seat<TurnNode>,
         listener: &mut N,
-        spawner: &mut P,
+        spawner: &mut ThreadSpawner<NodeJob<N::Link, S, C>>,
         links: &mut LinkSeats,
     ) -> Accepted
+    where
+        N::Link: Send + 'static,
         requires of { IsOf (arc_value self.now.shared.now) seat.old }
         requires centre { arc_value self.now.centre.now
             ≡ (arc_value self.now.shared.now).setup.centre }
         requires within { RetiredIsWithin (N.told listener.old) }
         ensures accepts { AcceptsOnce N.Link.told (arc_value self.now.shared.now)
-            (accepting seat.old (N.told listener.old) (P.told spawner.old) links.old)
-            (accepting seat.new (N.told listener.new) (P.told spawner.new) links.new) result }
+            (accepting seat.old (N.told listener.old) spawner.old.told links.old)
+            (accepting seat.new (N.told listener.new) spawner.new.told links.new) result }
     {
         if links.take_room().is_err() {
             return Accepted::NoRoom;
@@ -78,17 +85,21 @@ impl<'a, R: Threads + Wait> Starter<'a, R> {
     }
 
     /// Starts a job that serves the link, which comes back where it isn't started.
-    fn start_link<L: Link, S: Source, C: Clock, P: Spawner<NodeJob<L, S, C>>>(
+    fn start_link<
+        L: Link + Send + Drop + 'static,
+        S: Source + Send + Drop + 'static,
+        C: Clock + Send + Drop + 'static,
+    >(
         &self,
         seat: &mut Seat<TurnNode>,
-        spawner: &mut P,
+        spawner: &mut ThreadSpawner<NodeJob<L, S, C>>,
         link: L,
     ) -> Start<L>
         requires of { IsOf (arc_value self.now.shared.now) seat.old }
         requires centre { arc_value self.now.centre.now
             ≡ (arc_value self.now.shared.now).setup.centre }
         ensures { StartsAs (λ (l : L). inputs.Link l) (arc_value self.now.shared.now) link seat.old
-            seat.new (P.told spawner.old) (P.told spawner.new) result }
+            seat.new spawner.old.told spawner.new.told result }
     {
         match self.start_job(seat, spawner, JobInput::Link(link)) {
             Start::Started => Start::Started,

@@ -9,10 +9,11 @@ ghost use Rattle.server_run.specs.Beginning.{IsFeedInput, IsClockInput};
 
 use crate::starting::{JobInput, Starter};
 use bilateral::Centre;
+use job_threads::ThreadSpawner;
 use node_core::Node;
 use node_turn::TurnNode;
 use outside::Source;
-use outside_links::{Clock, Link, Spawner, Start};
+use outside_links::{Clock, Link, Start};
 use server_jobs::NodeJob;
 use share_turn::{Seat, Shared};
 use std::alloc::{AllocError, Global};
@@ -52,21 +53,25 @@ pub fn share_node(
     Shared::new(alloc, TurnNode { node })
 }
 
-impl<'a, R: Threads + Wait> Starter<'a, R> {
+impl<'a, R: Threads + Wait + Copy + Send + 'static> Starter<'a, R> {
     /// Starts the job of a feed, then that of a clock. Where one isn't started, no later one is.
-    pub fn begin_jobs<L: Link, S: Source, C: Clock, P: Spawner<NodeJob<L, S, C>>>(
+    pub fn begin_jobs<
+        L: Link + Send + Drop + 'static,
+        S: Source + Send + Drop + 'static,
+        C: Clock + Send + Drop + 'static,
+    >(
         &self,
         seat: &mut Seat<TurnNode>,
-        spawner: &mut P,
+        spawner: &mut ThreadSpawner<NodeJob<L, S, C>>,
         feed: S,
         clock: C,
     ) -> Begun<S, C>
         requires of { IsOf (arc_value self.now.shared.now) seat.old }
         requires centre { arc_value self.now.centre.now
             ≡ (arc_value self.now.shared.now).setup.centre }
-        requires none { (P.told spawner.old).pending ≡ [] }
+        requires none { spawner.old.told.pending ≡ [] }
         ensures { BeginsJobs S.told C.told (arc_value self.now.shared.now) (S.told feed)
-            (C.told clock) seat.old seat.new (P.told spawner.old) (P.told spawner.new) result }
+            (C.told clock) seat.old seat.new spawner.old.told spawner.new.told result }
     {
         match self.start_feed(seat, spawner, feed) {
             Start::Started => {
@@ -87,17 +92,21 @@ impl<'a, R: Threads + Wait> Starter<'a, R> {
     }
 
     /// Starts the job of a feed, which comes back where it isn't started.
-    fn start_feed<L: Link, S: Source, C: Clock, P: Spawner<NodeJob<L, S, C>>>(
+    fn start_feed<
+        L: Link + Send + Drop + 'static,
+        S: Source + Send + Drop + 'static,
+        C: Clock + Send + Drop + 'static,
+    >(
         &self,
         seat: &mut Seat<TurnNode>,
-        spawner: &mut P,
+        spawner: &mut ThreadSpawner<NodeJob<L, S, C>>,
         feed: S,
     ) -> Start<S>
         requires of { IsOf (arc_value self.now.shared.now) seat.old }
         requires centre { arc_value self.now.centre.now
             ≡ (arc_value self.now.shared.now).setup.centre }
         ensures { StartsAs (λ (s : S). inputs.Feed s) (arc_value self.now.shared.now) feed seat.old
-            seat.new (P.told spawner.old) (P.told spawner.new) result }
+            seat.new spawner.old.told spawner.new.told result }
     {
         match self.start_job(seat, spawner, JobInput::Feed(feed)) {
             Start::Started => Start::Started,
@@ -107,17 +116,21 @@ impl<'a, R: Threads + Wait> Starter<'a, R> {
     }
 
     /// Starts the job of a clock, which comes back where it isn't started.
-    fn start_ticks<L: Link, S: Source, C: Clock, P: Spawner<NodeJob<L, S, C>>>(
+    fn start_ticks<
+        L: Link + Send + Drop + 'static,
+        S: Source + Send + Drop + 'static,
+        C: Clock + Send + Drop + 'static,
+    >(
         &self,
         seat: &mut Seat<TurnNode>,
-        spawner: &mut P,
+        spawner: &mut ThreadSpawner<NodeJob<L, S, C>>,
         clock: C,
     ) -> Start<C>
         requires of { IsOf (arc_value self.now.shared.now) seat.old }
         requires centre { arc_value self.now.centre.now
             ≡ (arc_value self.now.shared.now).setup.centre }
         ensures { StartsAs (λ (c : C). inputs.Clock c) (arc_value self.now.shared.now) clock
-            seat.old seat.new (P.told spawner.old) (P.told spawner.new) result }
+            seat.old seat.new spawner.old.told spawner.new.told result }
     {
         match self.start_job(seat, spawner, JobInput::Clock(clock)) {
             Start::Started => Start::Started,

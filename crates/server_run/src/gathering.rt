@@ -15,10 +15,12 @@ ghost use Rattle.server_run.specs.Gathering.{FeedStarted, TicksStarted, FeedGath
 ghost use Rattle.server_run.specs.Gathering.{TicksGathered, behind_started, Gathers};
 
 use crate::seats::{FeedSeat, LinkSeat, LinkSeats, TickSeat};
+use crate::threads::finish_thread;
+use job_threads::ThreadSpawner;
 use node_core::Node;
 use node_turn::TurnNode;
 use outside::Source;
-use outside_links::{Clock, Link, Listener, Spawner};
+use outside_links::{Clock, Link, Listener};
 use server_jobs::{NodeDone, NodeJob};
 use share_turn::{Seat, Shared};
 use std::sync::Wait;
@@ -31,21 +33,25 @@ pub struct Gatherer<'a, R> {
     pub shared: &'a Shared<TurnNode>,
 }
 
-impl<'a, R: Threads + Wait> Gatherer<'a, R> {
+impl<'a, R: Threads + Wait + Copy + Send + 'static> Gatherer<'a, R> {
     /// Finishes the job of a feed, where it was started; else it hands the source on.
-    pub fn gather_feed<L: Link, S: Source, C: Clock, P: Spawner<NodeJob<L, S, C>>>(
+    pub fn gather_feed<
+        L: Link + Send + Drop + 'static,
+        S: Source + Send + Drop + 'static,
+        C: Clock + Send + Drop + 'static,
+    >(
         &self,
         seat: &mut Seat<TurnNode>,
-        spawner: &mut P,
+        spawner: &mut ThreadSpawner<NodeJob<L, S, C>>,
         unrun: Option<S>,
     ) -> (S, Option<FeedSeat>)
         requires of { IsOf self.now.shared.now seat.old }
         requires started { (given : SourceTold) × FeedStarted S.told self.now.shared.now given unrun
-            (P.told spawner.old).pending }
+            spawner.old.told.pending }
         ensures gathers { (given : SourceTold) → FeedStarted S.told self.now.shared.now given unrun
-            (P.told spawner.old).pending
+            spawner.old.told.pending
             → FeedGathered self.now.shared.now seat.old seat.new given (S.told result.0) result.1 }
-        ensures left { P.told spawner.new ≡ behind_started unrun (P.told spawner.old) }
+        ensures left { spawner.new.told ≡ behind_started unrun spawner.old.told }
     {
         match unrun {
             Some(source) => (source, None),
@@ -57,19 +63,23 @@ impl<'a, R: Threads + Wait> Gatherer<'a, R> {
     }
 
     /// Finishes the job of a clock, where it was started; else it hands the clock on.
-    pub fn gather_ticks<L: Link, S: Source, C: Clock, P: Spawner<NodeJob<L, S, C>>>(
+    pub fn gather_ticks<
+        L: Link + Send + Drop + 'static,
+        S: Source + Send + Drop + 'static,
+        C: Clock + Send + Drop + 'static,
+    >(
         &self,
         seat: &mut Seat<TurnNode>,
-        spawner: &mut P,
+        spawner: &mut ThreadSpawner<NodeJob<L, S, C>>,
         unrun: Option<C>,
     ) -> (C, Option<TickSeat>)
         requires of { IsOf self.now.shared.now seat.old }
         requires started { (given : ClockTold) × TicksStarted C.told self.now.shared.now given unrun
-            (P.told spawner.old).pending }
+            spawner.old.told.pending }
         ensures gathers { (given : ClockTold) → TicksStarted C.told self.now.shared.now given unrun
-            (P.told spawner.old).pending
+            spawner.old.told.pending
             → TicksGathered self.now.shared.now seat.old seat.new given (C.told result.0) result.1 }
-        ensures left { P.told spawner.new ≡ behind_started unrun (P.told spawner.old) }
+        ensures left { spawner.new.told ≡ behind_started unrun spawner.old.told }
     {
         match unrun {
             Some(clock) => (clock, None),
@@ -82,21 +92,25 @@ impl<'a, R: Threads + Wait> Gatherer<'a, R> {
 
     /// Finishes the job of a feed, which was started first of those that are left. Its source comes
     /// back, with the number of its seat and its end.
-    fn finish_feed<L: Link, S: Source, C: Clock, P: Spawner<NodeJob<L, S, C>>>(
+    fn finish_feed<
+        L: Link + Send + Drop + 'static,
+        S: Source + Send + Drop + 'static,
+        C: Clock + Send + Drop + 'static,
+    >(
         &self,
         seat: &mut Seat<TurnNode>,
-        spawner: &mut P,
+        spawner: &mut ThreadSpawner<NodeJob<L, S, C>>,
     ) -> (S, FeedSeat)
         requires of { IsOf self.now.shared.now seat.old }
         requires first { (given : SourceTold) × FirstIs
-            (IsFeedJob S.told self.now.shared.now given) (P.told spawner.old).pending }
+            (IsFeedJob S.told self.now.shared.now given) spawner.old.told.pending }
         ensures finishes { (given : SourceTold)
-            → FirstIs (IsFeedJob S.told self.now.shared.now given) (P.told spawner.old).pending
+            → FirstIs (IsFeedJob S.told self.now.shared.now given) spawner.old.told.pending
             → FinishesFeed self.now.shared.now seat.old seat.new given (S.told result.0) result.1 }
-        ensures left { P.told spawner.new
-            ≡ record (P.told spawner.old) { pending = drop 1 (P.told spawner.old).pending } }
+        ensures left { spawner.new.told
+            ≡ record spawner.old.told { pending = drop 1 spawner.old.told.pending } }
     {
-        let Some(done) = spawner.finish_one(self.rt) else {
+        let Some(done) = finish_thread(self.rt, spawner) else {
             unreachable!()
         };
         self.take_feed(seat, done)
@@ -104,21 +118,25 @@ impl<'a, R: Threads + Wait> Gatherer<'a, R> {
 
     /// Finishes the job of a clock, which was started first of those that are left. The clock comes
     /// back, with the number of its seat and its end.
-    fn finish_ticks<L: Link, S: Source, C: Clock, P: Spawner<NodeJob<L, S, C>>>(
+    fn finish_ticks<
+        L: Link + Send + Drop + 'static,
+        S: Source + Send + Drop + 'static,
+        C: Clock + Send + Drop + 'static,
+    >(
         &self,
         seat: &mut Seat<TurnNode>,
-        spawner: &mut P,
+        spawner: &mut ThreadSpawner<NodeJob<L, S, C>>,
     ) -> (C, TickSeat)
         requires of { IsOf self.now.shared.now seat.old }
         requires first { (given : ClockTold) × FirstIs
-            (IsTicksJob C.told self.now.shared.now given) (P.told spawner.old).pending }
+            (IsTicksJob C.told self.now.shared.now given) spawner.old.told.pending }
         ensures finishes { (given : ClockTold)
-            → FirstIs (IsTicksJob C.told self.now.shared.now given) (P.told spawner.old).pending
+            → FirstIs (IsTicksJob C.told self.now.shared.now given) spawner.old.told.pending
             → FinishesTicks self.now.shared.now seat.old seat.new given (C.told result.0) result.1 }
-        ensures left { P.told spawner.new
-            ≡ record (P.told spawner.old) { pending = drop 1 (P.told spawner.old).pending } }
+        ensures left { spawner.new.told
+            ≡ record spawner.old.told { pending = drop 1 spawner.old.told.pending } }
     {
-        let Some(done) = spawner.finish_one(self.rt) else {
+        let Some(done) = finish_thread(self.rt, spawner) else {
             unreachable!()
         };
         self.take_ticks(seat, done)
@@ -126,25 +144,31 @@ impl<'a, R: Threads + Wait> Gatherer<'a, R> {
 
     /// Finishes the jobs of links, which are all that are left, in the order of their starts. Each
     /// link is retired, and its seat noted.
-    pub fn finish_links<N: Listener, S: Source, C: Clock, P: Spawner<NodeJob<N::Link, S, C>>>(
+    pub fn finish_links<
+        N: Listener,
+        S: Source + Send + Drop + 'static,
+        C: Clock + Send + Drop + 'static,
+    >(
         &self,
         seat: &mut Seat<TurnNode>,
         listener: &mut N,
-        spawner: &mut P,
+        spawner: &mut ThreadSpawner<NodeJob<N::Link, S, C>>,
         links: &mut LinkSeats,
     )
+    where
+        N::Link: Send + 'static,
         requires of { IsOf self.now.shared.now seat.old }
         requires jobs { Each (IsLinkJob N.Link.told self.now.shared.now)
-            (P.told spawner.old).pending }
-        requires rooms { length (P.told spawner.old).pending ≤ links.old.rooms }
-        requires out { AreOut (length (P.told spawner.old).pending) (N.told listener.old) }
+            spawner.old.told.pending }
+        requires rooms { length spawner.old.told.pending ≤ links.old.rooms }
+        requires out { AreOut (length spawner.old.told.pending) (N.told listener.old) }
         ensures finishes { FinishesLinks self.now.shared.now
-            (length (P.told spawner.old).pending)
+            (length spawner.old.told.pending)
             (gathering seat.old (N.told listener.old) links.old)
             (gathering seat.new (N.told listener.new) links.new) }
-        ensures left { P.told spawner.new ≡ record (P.told spawner.old) { pending = [] } }
+        ensures left { spawner.new.told ≡ record spawner.old.told { pending = [] } }
     {
-        while let Some(done) = spawner.finish_one(self.rt) {
+        while let Some(done) = finish_thread(self.rt, spawner) {
             let (link, linked) = self.take_link(seat, done);
             listener.retire(link);
             links.note(Some(linked));

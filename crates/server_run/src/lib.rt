@@ -8,6 +8,7 @@ mod laws;
 mod seats;
 mod serving;
 mod starting;
+mod threads;
 
 pub use accepting::Accepted;
 pub use beginning::{Beginning, Begun, share_node};

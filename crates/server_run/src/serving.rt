@@ -10,9 +10,10 @@ ghost use Rattle.server_run.specs.Rounds.{end_of_accept, end_of_orders};
 use crate::accepting::Accepted;
 use crate::seats::LinkSeats;
 use crate::starting::Starter;
+use job_threads::ThreadSpawner;
 use node_turn::TurnNode;
 use outside::{Sink, Source};
-use outside_links::{Clock, Listener, Spawner};
+use outside_links::{Clock, Listener};
 use plant_orders::{OrderTaker, OrdersTaken};
 use server_jobs::NodeJob;
 use share_turn::Seat;
@@ -34,28 +35,35 @@ pub enum ServingEnd {
     Memory,
 }
 
-impl<'a, R: Threads + Wait> Starter<'a, R> {
+impl<'a, R: Threads + Wait + Copy + Send + 'static> Starter<'a, R> {
     /// Accepts a link and takes orders, again and again, until that ends. Accept is called once
     /// before each taking of orders, also where no link will come any more.
-    pub fn serve_on<N: Listener, S: Source, C: Clock, K: Sink, P: Spawner<NodeJob<N::Link, S, C>>>(
+    pub fn serve_on<
+        N: Listener,
+        S: Source + Send + Drop + 'static,
+        C: Clock + Send + Drop + 'static,
+        K: Sink,
+    >(
         &self,
         seat: &mut Seat<TurnNode>,
         listener: &mut N,
-        spawner: &mut P,
+        spawner: &mut ThreadSpawner<NodeJob<N::Link, S, C>>,
         links: &mut LinkSeats,
         plant: &mut K,
     ) -> ServingEnd
+    where
+        N::Link: Send + 'static,
         requires centre { arc_value self.now.centre.now
             ≡ (arc_value self.now.shared.now).setup.centre }
         requires serving { ServesBehind N.Link.told (arc_value self.now.shared.now)
-            (accepting seat.old (N.told listener.old) (P.told spawner.old) links.old) }
+            (accepting seat.old (N.told listener.old) spawner.old.told links.old) }
         ensures keeps { KeepsServing N.Link.told (arc_value self.now.shared.now)
-            (accepting seat.old (N.told listener.old) (P.told spawner.old) links.old)
-            (accepting seat.new (N.told listener.new) (P.told spawner.new) links.new) }
+            (accepting seat.old (N.told listener.old) spawner.old.told links.old)
+            (accepting seat.new (N.told listener.new) spawner.new.told links.new) }
         ensures serves { ServesOn N.Link.told (arc_value self.now.shared.now)
-            (serving_state (accepting seat.old (N.told listener.old) (P.told spawner.old) links.old)
+            (serving_state (accepting seat.old (N.told listener.old) spawner.old.told links.old)
             (K.told plant.old))
-            (serving_state (accepting seat.new (N.told listener.new) (P.told spawner.new) links.new)
+            (serving_state (accepting seat.new (N.told listener.new) spawner.new.told links.new)
             (K.told plant.new)) result }
     {
         for _ in self.rt.forever() {
@@ -68,22 +76,29 @@ impl<'a, R: Threads + Wait> Starter<'a, R> {
     }
 
     /// Accepts a link, where one is given, and takes orders. None where it goes on.
-    fn serve_round<N: Listener, S: Source, C: Clock, K: Sink, P: Spawner<NodeJob<N::Link, S, C>>>(
+    fn serve_round<
+        N: Listener,
+        S: Source + Send + Drop + 'static,
+        C: Clock + Send + Drop + 'static,
+        K: Sink,
+    >(
         &self,
         seat: &mut Seat<TurnNode>,
         listener: &mut N,
-        spawner: &mut P,
+        spawner: &mut ThreadSpawner<NodeJob<N::Link, S, C>>,
         links: &mut LinkSeats,
         plant: &mut K,
     ) -> Option<ServingEnd>
+    where
+        N::Link: Send + 'static,
         requires centre { arc_value self.now.centre.now
             ≡ (arc_value self.now.shared.now).setup.centre }
         requires serving { ServesBehind N.Link.told (arc_value self.now.shared.now)
-            (accepting seat.old (N.told listener.old) (P.told spawner.old) links.old) }
+            (accepting seat.old (N.told listener.old) spawner.old.told links.old) }
         ensures { ServesRound N.Link.told (arc_value self.now.shared.now)
-            (serving_state (accepting seat.old (N.told listener.old) (P.told spawner.old) links.old)
+            (serving_state (accepting seat.old (N.told listener.old) spawner.old.told links.old)
             (K.told plant.old))
-            (serving_state (accepting seat.new (N.told listener.new) (P.told spawner.new) links.new)
+            (serving_state (accepting seat.new (N.told listener.new) spawner.new.told links.new)
             (K.told plant.new)) result }
     {
         let accepted = self.accept_once(seat, listener, spawner, links);

@@ -7,10 +7,12 @@ ghost use Rattle.server_run.specs.Gathering.{HasFreshSeat};
 ghost use Rattle.server_run.specs.Starting.{seat_of, input_of, node_of, TakesBack};
 ghost use Rattle.server_run.specs.Starting.{StartsJobOn};
 
+use crate::threads::start_thread;
 use bilateral::Centre;
+use job_threads::ThreadSpawner;
 use node_turn::TurnNode;
 use outside::Source;
-use outside_links::{Clock, Link, Spawner, Start};
+use outside_links::{Clock, Link, Start};
 use server_jobs::{JobParts, NodeJob};
 use share_turn::{Seat, Shared};
 use std::alloc::Global;
@@ -37,19 +39,23 @@ pub struct Starter<'a, R> {
     pub shared: &'a Arc<Shared<TurnNode>>,
 }
 
-impl<'a, R: Threads + Wait> Starter<'a, R> {
+impl<'a, R: Threads + Wait + Copy + Send + 'static> Starter<'a, R> {
     /// Starts a job on this input, which comes back where it isn't started.
-    pub fn start_job<L: Link, S: Source, C: Clock, P: Spawner<NodeJob<L, S, C>>>(
+    pub fn start_job<
+        L: Link + Send + Drop + 'static,
+        S: Source + Send + Drop + 'static,
+        C: Clock + Send + Drop + 'static,
+    >(
         &self,
         seat: &mut Seat<TurnNode>,
-        spawner: &mut P,
+        spawner: &mut ThreadSpawner<NodeJob<L, S, C>>,
         input: JobInput<L, S, C>,
     ) -> Start<JobInput<L, S, C>>
         requires of { IsOf (arc_value self.now.shared.now) seat.old }
         requires centre { arc_value self.now.centre.now
             ≡ (arc_value self.now.shared.now).setup.centre }
         ensures { StartsJobOn (arc_value self.now.shared.now) input seat.old seat.new
-            (P.told spawner.old) (P.told spawner.new) result }
+            spawner.old.told spawner.new.told result }
     {
         let Ok(centre) = self.centre.clone() else {
             return Start::Memory(input);
@@ -59,7 +65,7 @@ impl<'a, R: Threads + Wait> Starter<'a, R> {
         };
         let other = self.shared.split(self.rt, seat);
         let job = job_on(self.alloc, centre, shared, other, input);
-        match spawner.start(self.rt, job) {
+        match start_thread(self.rt, spawner, job) {
             Start::Started => Start::Started,
             Start::Memory(back) => Start::Memory(take_back(self.shared, seat, back)),
             Start::Refused(back) => Start::Refused(take_back(self.shared, seat, back)),

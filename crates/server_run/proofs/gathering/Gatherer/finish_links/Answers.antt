@@ -7,8 +7,8 @@ use Rattle.server_run.proofs.gathering.Gatherer.finish_links.Goals as goal
 pub loop-done-preserved : goal.loop-done-preserved
 loop-done-preserved g c =
     let node = c.args.self.now.shared.now in
-    let told = g.P.Spawner.told c.loop-done.spawner in
-    let later = g.P.Spawner.told c.finish_one.new.self in
+    let told = c.loop-done.spawner.told in
+    let later = c.finish_thread.new.spawner.told in
     let done = c.in-Some.done in
     let back = c.take_link-link.result.0 in
     let linked = c.take_link-link.result.1 in
@@ -25,7 +25,7 @@ loop-done-preserved g c =
           (g.N.Listener.told c.retire.new.self) c.in-Some.ensures c.retire.ensures.retires
           c.loop-done.invariant.out;
       same = same-left g.N.Link.Link.told g.S.Source.told g.C.Clock.told node
-          (g.P.Spawner.told c.args.spawner.now) told later done c.in-Some.ensures
+          c.args.spawner.now.told told later done c.in-Some.ensures
           c.loop-done.invariant.same;
       goes = λ after rest. c.loop-done.invariant.goes after
           (goes-on g.N.Link.Link.told g.S.Source.told g.C.Clock.told node told later done
@@ -41,5 +41,5 @@ returns-clause-finishes g c =
     c.loop-done.links in
     c.loop-done.invariant.goes now
     (all-done g.N.Link.Link.told g.S.Source.told g.C.Clock.told c.args.self.now.shared.now
-    (g.P.Spawner.told c.loop-done.spawner) now c.in_default.ensures.0
+    c.loop-done.spawner.told now c.in_default.ensures.0
     c.loop-done.invariant.of)

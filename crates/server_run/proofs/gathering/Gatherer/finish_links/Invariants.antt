@@ -9,17 +9,17 @@ abbrev pub invariant-loop-done : goal.invariant-loop-done
 invariant-loop-done g l = record {
   of : IsOf l.fn.self.shared.now l.seat;
   jobs : Each (IsLinkJob g.N.Link.Link.told l.fn.self.shared.now)
-      (g.P.Spawner.told l.spawner).pending;
-  rooms : length (g.P.Spawner.told l.spawner).pending ≤ l.links.rooms;
-  out : AreOut (length (g.P.Spawner.told l.spawner).pending) (g.N.Listener.told l.listener);
-  same : g.P.Spawner.told l.initial.spawner ≡ record (g.P.Spawner.told l.spawner)
-      { pending = (g.P.Spawner.told l.initial.spawner).pending };
+      l.spawner.told.pending;
+  rooms : length l.spawner.told.pending ≤ l.links.rooms;
+  out : AreOut (length l.spawner.told.pending) (g.N.Listener.told l.listener);
+  same : l.initial.spawner.told ≡ record l.spawner.told
+      { pending = l.initial.spawner.told.pending };
   goes : (after : Gathering)
-      → FinishesLinks l.fn.self.shared.now (length (g.P.Spawner.told l.spawner).pending)
+      → FinishesLinks l.fn.self.shared.now (length l.spawner.told.pending)
       (gathering l.seat (g.N.Listener.told l.listener) l.links) after
-      → FinishesLinks l.fn.self.shared.now (length (g.P.Spawner.told l.initial.spawner).pending)
+      → FinishesLinks l.fn.self.shared.now (length l.initial.spawner.told.pending)
       (gathering l.initial.seat (g.N.Listener.told l.initial.listener) l.initial.links) after;
 }
 
 abbrev pub decreases-loop-done : goal.decreases-loop-done
-decreases-loop-done g l = length (g.P.Spawner.told l.spawner).pending
+decreases-loop-done g l = length l.spawner.told.pending

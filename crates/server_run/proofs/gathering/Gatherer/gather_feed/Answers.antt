@@ -3,17 +3,17 @@ use Rattle.server_run.proofs.Came.{feed-started, feed-unrun}
 use Rattle.server_run.proofs.gathering.Gatherer.gather_feed.Goals as goal
 
 pub finish_feed-source-requires-clause-first : goal.finish_feed-source-requires-clause-first
-finish_feed-source-requires-clause-first g c = (
+finish_feed-source-requires-clause-first g c κs within = (
   c.requires.started.0,
   feed-started g.L.Link.told g.S.Source.told g.C.Clock.told c.args.self.now.shared.now
-      c.requires.started.0 c.args.unrun (g.P.Spawner.told c.args.spawner.now).pending
+      c.requires.started.0 c.args.unrun c.args.spawner.now.told.pending
       c.in-None.is c.requires.started.1,
 )
 
 pub returns-in-Some-clause-gathers : goal.returns-in-Some-clause-gathers
 returns-in-Some-clause-gathers g c = λ given started. (
   feed-unrun g.L.Link.told g.S.Source.told g.C.Clock.told c.args.self.now.shared.now
-      given c.args.unrun (g.P.Spawner.told c.args.spawner.now).pending c.in-Some.source
+      given c.args.unrun c.args.spawner.now.told.pending c.in-Some.source
       c.in-Some.is started,
   refl,
 )
@@ -21,4 +21,4 @@ returns-in-Some-clause-gathers g c = λ given started. (
 pub returns-in-None-clause-gathers : goal.returns-in-None-clause-gathers
 returns-in-None-clause-gathers g c = λ given started. c.finish_feed-source.ensures.finishes given
     (feed-started g.L.Link.told g.S.Source.told g.C.Clock.told c.args.self.now.shared.now
-    given c.args.unrun (g.P.Spawner.told c.args.spawner.now).pending c.in-None.is started)
+    given c.args.unrun c.args.spawner.now.told.pending c.in-None.is started)

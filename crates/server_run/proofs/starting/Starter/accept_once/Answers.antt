@@ -11,7 +11,7 @@ returns-in-Link g c =
       accepts = accepted-link g.N.Link.Link.told (arc_value c.args.self.now.shared.now)
           c.args.seat.now c.start_link-start.new.seat (g.N.Listener.told c.args.listener.now)
           (g.N.Listener.told c.accept.new.self) (g.N.Listener.told c.settle_link.new.listener)
-          (g.P.Spawner.told c.args.spawner.now) (g.P.Spawner.told c.start_link-start.new.spawner)
+          c.args.spawner.now.told c.start_link-start.new.spawner.told
           c.args.links.now c.take_room.new.self c.settle_link.new.links c.in-Link.link
           c.start_link-start.result c.settle_link.result c.in-Link.ensures.accepts taken
           c.start_link-start.ensures c.settle_link.ensures;

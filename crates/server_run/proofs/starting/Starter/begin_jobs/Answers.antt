@@ -6,8 +6,8 @@ pub returns-in-Started : goal.returns-in-Started
 returns-in-Started g c =
     both_begun g.S.Source.told g.C.Clock.told (arc_value c.args.self.now.shared.now) c.args.feed
     c.args.clock c.args.seat.now c.start_feed.new.seat c.start_ticks-start.new.seat
-    (g.P.Spawner.told c.args.spawner.now) (g.P.Spawner.told c.start_feed.new.spawner)
-    (g.P.Spawner.told c.start_ticks-start.new.spawner) c.start_ticks-start.result
+    c.args.spawner.now.told c.start_feed.new.spawner.told
+    c.start_ticks-start.new.spawner.told c.start_ticks-start.result
     c.end_beginning.result c.requires.of c.requires.none c.in-Started.ensures
     c.start_ticks-start.ensures c.end_beginning.ensures
 
@@ -15,12 +15,12 @@ pub returns-in-Memory : goal.returns-in-Memory
 returns-in-Memory g c =
     none_begun g.S.Source.told g.C.Clock.told (arc_value c.args.self.now.shared.now) c.args.feed
     c.in-Memory.feed c.args.clock c.args.seat.now c.start_feed.new.seat
-    (g.P.Spawner.told c.args.spawner.now) (g.P.Spawner.told c.start_feed.new.spawner)
+    c.args.spawner.now.told c.start_feed.new.spawner.told
     c.requires.none c.in-Memory.ensures
 
 pub returns-in-Refused : goal.returns-in-Refused
 returns-in-Refused g c =
     none_refused g.S.Source.told g.C.Clock.told (arc_value c.args.self.now.shared.now) c.args.feed
     c.in-Refused.feed c.args.clock c.args.seat.now c.start_feed.new.seat
-    (g.P.Spawner.told c.args.spawner.now) (g.P.Spawner.told c.start_feed.new.spawner)
+    c.args.spawner.now.told c.start_feed.new.spawner.told
     c.requires.none c.in-Refused.ensures

@@ -10,9 +10,9 @@ loop-preserved g c =
     let told = g.N.Link.Link.told in
     let node = arc_value c.args.self.now.shared.now in
     let now = serving_state (accepting c.loop.seat (g.N.Listener.told c.loop.listener)
-    (g.P.Spawner.told c.loop.spawner) c.loop.links) (g.K.Sink.told c.loop.plant) in
+    c.loop.spawner.told c.loop.links) (g.K.Sink.told c.loop.plant) in
     let mid = serving_state (accepting c.serve_round.new.seat
-    (g.N.Listener.told c.serve_round.new.listener) (g.P.Spawner.told c.serve_round.new.spawner)
+    (g.N.Listener.told c.serve_round.new.listener) c.serve_round.new.spawner.told
     c.serve_round.new.links) (g.K.Sink.told c.serve_round.new.plant) in
     record {
       keeps = λ first serving. round-keeps told node first now mid None
@@ -26,9 +26,9 @@ returns-in-Some-serve_round-clause-keeps g c =
     let told = g.N.Link.Link.told in
     let node = arc_value c.args.self.now.shared.now in
     let now = serving_state (accepting c.loop.seat (g.N.Listener.told c.loop.listener)
-    (g.P.Spawner.told c.loop.spawner) c.loop.links) (g.K.Sink.told c.loop.plant) in
+    c.loop.spawner.told c.loop.links) (g.K.Sink.told c.loop.plant) in
     let after = serving_state (accepting c.serve_round.new.seat
-    (g.N.Listener.told c.serve_round.new.listener) (g.P.Spawner.told c.serve_round.new.spawner)
+    (g.N.Listener.told c.serve_round.new.listener) c.serve_round.new.spawner.told
     c.serve_round.new.links) (g.K.Sink.told c.serve_round.new.plant) in
     λ first serving. round-keeps told node first now after (Some c.in-Some-serve_round.end)
     c.in-Some-serve_round.ensures (c.loop.invariant.keeps first serving)
@@ -38,9 +38,9 @@ returns-in-Some-serve_round-clause-serves g c =
     let told = g.N.Link.Link.told in
     let node = arc_value c.args.self.now.shared.now in
     let now = serving_state (accepting c.loop.seat (g.N.Listener.told c.loop.listener)
-    (g.P.Spawner.told c.loop.spawner) c.loop.links) (g.K.Sink.told c.loop.plant) in
+    c.loop.spawner.told c.loop.links) (g.K.Sink.told c.loop.plant) in
     let after = serving_state (accepting c.serve_round.new.seat
-    (g.N.Listener.told c.serve_round.new.listener) (g.P.Spawner.told c.serve_round.new.spawner)
+    (g.N.Listener.told c.serve_round.new.listener) c.serve_round.new.spawner.told
     c.serve_round.new.links) (g.K.Sink.told c.serve_round.new.plant) in
     c.loop.invariant.goes after c.in-Some-serve_round.end
     (last-round told node now after c.in-Some-serve_round.end c.in-Some-serve_round.ensures)

@@ -9,14 +9,14 @@ abbrev pub invariant-loop : goal.invariant-loop
 invariant-loop g l = record {
   keeps : KeepsServing g.N.Link.Link.told (arc_value l.fn.self.shared.now)
       (accepting l.initial.seat (g.N.Listener.told l.initial.listener)
-      (g.P.Spawner.told l.initial.spawner) l.initial.links)
-      (accepting l.seat (g.N.Listener.told l.listener) (g.P.Spawner.told l.spawner) l.links);
+      l.initial.spawner.told l.initial.links)
+      (accepting l.seat (g.N.Listener.told l.listener) l.spawner.told l.links);
   goes : (after : ServingState g.row.N-Link.Denot g.row.S.Denot g.row.C.Denot) (end : ServingEnd)
       → ServesOn g.N.Link.Link.told (arc_value l.fn.self.shared.now)
       (serving_state (accepting l.seat (g.N.Listener.told l.listener)
-      (g.P.Spawner.told l.spawner) l.links) (g.K.Sink.told l.plant)) after end
+      l.spawner.told l.links) (g.K.Sink.told l.plant)) after end
       → ServesOn g.N.Link.Link.told (arc_value l.fn.self.shared.now)
       (serving_state (accepting l.initial.seat (g.N.Listener.told l.initial.listener)
-      (g.P.Spawner.told l.initial.spawner) l.initial.links) (g.K.Sink.told l.initial.plant))
+      l.initial.spawner.told l.initial.links) (g.K.Sink.told l.initial.plant))
       after end;
 }
