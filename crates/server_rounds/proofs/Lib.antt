@@ -1,0 +1,7 @@
+mod Counts
+mod Given
+mod Listened
+mod Seated
+mod Accepted
+mod Ordered
+mod Joined
