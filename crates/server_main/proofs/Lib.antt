@@ -1,0 +1,15 @@
+mod Pending
+mod FirstSeat
+mod AtWork
+mod ClaimsLeft
+mod OwnStop
+mod Quiet
+mod FeedQuiet
+mod LinkQuiet
+mod TakenAlone
+mod PlantTold
+mod CountsRisen
+mod GatheredJobs
+mod EndFirst
+mod LeftTold
+mod ServedAll
