@@ -1,0 +1,6 @@
+pub mod SentOut
+pub mod Grows
+pub mod Timely
+pub mod Flushed
+pub mod Received
+pub mod Begun

@@ -1,0 +1,5 @@
+pub mod LinkOctets
+pub mod Sends
+pub mod Talks
+pub mod Runs
+pub mod Playing
