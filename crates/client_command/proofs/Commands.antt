@@ -1,0 +1,156 @@
+-- A run of a client's command: what it answers, and why a failure is answered.
+use Rattle.std.proofs.Common.{◌≡◌, ◌⊎◌, ℕ, true, List, refl, sym, ap, subst, inl, inr}
+use Rattle.std.specs.Prelude.{Result, Ok, Err, Vec, codes}
+use Rattle.std.specs.declared.alloc.Global.{Global}
+use Rattle.outside_names.specs.Outside.{OutsideTold}
+use Rattle.bilateral.specs.Rows.{CentreRows}
+use Rattle.command_io.specs.declared.status.Status.{Status}
+use Rattle.command_io.specs.declared.status.Status.TheVariants as statuses
+use Rattle.command_io.specs.declared.input.TheConstants.{TEXT_LIMIT}
+use Rattle.command_io.specs.declared.input.Refusal.TheVariants.{BadLine}
+use Rattle.command_io.specs.declared.input.InputEnd.{InputEnd}
+use Rattle.command_io.specs.declared.input.InputEnd.TheVariants.{Refused, Outside, Memory}
+use Rattle.command_io.specs.Statuses.{is_outside}
+use Rattle.command_io.specs.Inputs.{ReadsInput, is_lost}
+use Rattle.command_io.specs.OutsideUse.{Grows, Rises}
+use Rattle.command_io.specs.Runs.{EndsUnread}
+use Rattle.command_io.specs.Plans.{IsValue, IsSpelled, ReadsValue}
+use Rattle.command_io.proofs.Leaving.{Grows-same, Rises-after, Rises-grows}
+use Rattle.command_words.specs.Words.{ClientTask}
+use Rattle.node_files.specs.Tables.{tables_in}
+use Rattle.client_command.specs.Playing.{GoesBehindScript, GoesBehindTables}
+use Rattle.client_command.specs.Playing.{PlaysOver, PlaysScript}
+use Rattle.client_command.proofs.Faults.{opened_grows, unopened_rises}
+use Rattle.client_command.proofs.Played.{played_rises, run_unasked}
+
+-- ---- an input
+
+input_grows : (before after : OutsideTold) (name : List ℕ) (limit : ℕ)
+    (read : Result (Vec ℕ Global) InputEnd) → ReadsInput before after name limit read
+    → Grows before.faults after.faults
+input_grows before after name limit read reads = elim reads.opens.uses.counted.kept [
+  | inl same ↦ Grows-same before.faults after.faults same
+  | inr rose ↦ Rises-grows before.faults after.faults rose.0
+]
+
+lost : (read : Result (Vec ℕ Global) InputEnd) → read ≡ Err Outside → is_lost read ≡ true
+lost read is = ap (λ (r : Result (Vec ℕ Global) InputEnd). is_lost r) is
+
+value_lost : (spelled : List ℕ → Result CentreRows ℕ) (read : Result (Vec ℕ Global) InputEnd)
+    (result : Result CentreRows InputEnd) → IsValue spelled read result → result ≡ Err Outside
+    → is_lost read ≡ true
+value_lost spelled (Ok text) result value is =
+    absurd (subst (λ (r : Result CentreRows InputEnd). IsSpelled r (spelled text.items)) is value)
+value_lost spelled (Err (Refused refusal)) result value is = absurd cc
+value_lost spelled (Err Outside) result value is = refl
+value_lost spelled (Err Memory) result value is = absurd cc
+
+-- a command that has no input fails where that wasn't read, or where its refusal isn't printed
+unread_rises : (called : List ℕ) (end : InputEnd) (before after : OutsideTold) (status : Status)
+    → EndsUnread called end before after status → status ≡ statuses.Outside
+    → ((end ≡ Outside) × (after ≡ before)) ⊎ Rises before.faults after.faults
+unread_rises called (Refused refusal) before after status ends is =
+    inr (ends.0.uses.counted.cause (ap is_outside is))
+unread_rises called Outside before after status ends is = inl (refl, ends.1)
+unread_rises called Memory before after status ends is = absurd cc
+
+unread_unasked : (called : List ℕ) (end : InputEnd) (before after : OutsideTold) (status : Status)
+    → EndsUnread called end before after status → status ≡ statuses.Usage → ⊥
+unread_unasked called (Refused refusal) before after status ends is = elim ends.1 [
+  | inl input ↦ absurd cc
+  | inr outside ↦ absurd cc
+]
+unread_unasked called Outside before after status ends is = absurd cc
+unread_unasked called Memory before after status ends is = absurd cc
+
+-- an input that isn't there, and what the command does then
+behind_unread : (called : List ℕ) (end : InputEnd) (b m a : OutsideTold) (status : Status)
+    → Grows b.faults m.faults → (end ≡ Outside → Rises b.faults m.faults)
+    → EndsUnread called end m a status → status ≡ statuses.Outside → Rises b.faults a.faults
+behind_unread called end b m a status grows risen ends is =
+    elim (unread_rises called end m a status ends is) [
+      | inl same ↦ subst (λ (o : OutsideTold). Rises b.faults o.faults) (sym same.1) (risen same.0)
+      | inr rose ↦ Rises-after b.faults m.faults a.faults grows rose
+    ]
+
+-- ---- behind the script
+
+module _ (task : ClientTask) (rows : CentreRows) (text : List ℕ) (before after : OutsideTold)
+    (status : Status) where
+  over_rises : PlaysOver task rows text before after status → status ≡ statuses.Outside
+      → Rises before.faults after.faults
+  over_rises over is = Rises-after before.faults over.opened.faults after.faults
+      (opened_grows task.address before over.opened over.link over.sink over.opens)
+      (played_rises rows text over.link over.sink over.opened after status over.plays is)
+
+  text_rises : PlaysScript task rows text before after status → status ≡ statuses.Outside
+      → Rises before.faults after.faults
+  text_rises (inl (inl over)) is = over_rises over is
+  text_rises (inl (inr unconnected)) is =
+      unopened_rises task.address before after unconnected.unopened
+  text_rises (inr (inl refuses)) is = refuses.told.0.uses.counted.cause (ap is_outside is)
+  text_rises (inr (inr wanting)) is = absurd cc
+
+  text_unasked : PlaysScript task rows text before after status → status ≡ statuses.Usage → ⊥
+  text_unasked (inl (inl over)) is = run_unasked over.plays.end over.plays.shown over.plays.told
+      status over.plays.tells is
+  text_unasked (inl (inr unconnected)) is = absurd cc
+  text_unasked (inr (inl refuses)) is = unread_unasked (codes "script") (Refused (BadLine refuses.fault.line))
+      before after status refuses.told is
+  text_unasked (inr (inr wanting)) is = absurd cc
+
+script_rises : (task : ClientTask) (rows : CentreRows) (read : Result (Vec ℕ Global) InputEnd)
+    (b m a : OutsideTold) (status : Status) → ReadsInput b m task.script TEXT_LIMIT read
+    → GoesBehindScript task rows read m a status → status ≡ statuses.Outside
+    → Rises b.faults a.faults
+script_rises task rows (Ok text) b m a status reads goes is =
+    Rises-after b.faults m.faults a.faults
+    (input_grows b m task.script TEXT_LIMIT (Ok text) reads)
+    (text_rises task rows text.items m a status goes is)
+script_rises task rows (Err end) b m a status reads goes is =
+    behind_unread (codes "script") end b m a status (input_grows b m task.script TEXT_LIMIT (Err end) reads)
+    (λ same. reads.opens.uses.counted.cause
+    (lost (Err end) (ap (λ (e : InputEnd). Err e) same))) goes is
+
+script_unasked : (task : ClientTask) (rows : CentreRows) (read : Result (Vec ℕ Global) InputEnd)
+    (m a : OutsideTold) (status : Status) → GoesBehindScript task rows read m a status
+    → status ≡ statuses.Usage → ⊥
+script_unasked task rows (Ok text) m a status goes is =
+    text_unasked task rows text.items m a status goes is
+script_unasked task rows (Err end) m a status goes is =
+    unread_unasked (codes "script") end m a status goes is
+
+-- ---- behind the tables
+
+tables_grow : (spelled : List ℕ → Result CentreRows ℕ) (name : List ℕ) (limit : ℕ)
+    (read : Result CentreRows InputEnd) (before after : OutsideTold)
+    → ReadsValue spelled name limit read before after → Grows before.faults after.faults
+tables_grow spelled name limit read before after reads =
+    input_grows before after name limit reads.0 reads.1
+
+tables_rise : (spelled : List ℕ → Result CentreRows ℕ) (name : List ℕ) (limit : ℕ)
+    (read : Result CentreRows InputEnd) (before after : OutsideTold)
+    → ReadsValue spelled name limit read before after → read ≡ Err Outside
+    → Rises before.faults after.faults
+tables_rise spelled name limit read before after reads is =
+    reads.1.opens.uses.counted.cause (value_lost spelled reads.0 read reads.2 is)
+
+pub command_rises : (task : ClientTask) (read : Result CentreRows InputEnd) (b m a : OutsideTold)
+    (status : Status) → ReadsValue tables_in task.tables TEXT_LIMIT read b m
+    → GoesBehindTables task read m a status → status ≡ statuses.Outside → Rises b.faults a.faults
+command_rises task (Ok rows) b m a status reads goes is =
+    Rises-after b.faults m.faults a.faults
+    (tables_grow tables_in task.tables TEXT_LIMIT (Ok rows) b m reads)
+    (script_rises task rows goes.read m goes.mid a status goes.reads goes.goes is)
+command_rises task (Err end) b m a status reads goes is =
+    behind_unread (codes "tables") end b m a status
+    (tables_grow tables_in task.tables TEXT_LIMIT (Err end) b m reads)
+    (λ same. tables_rise tables_in task.tables TEXT_LIMIT (Err end) b m reads
+    (ap (λ (e : InputEnd). Err e) same)) goes is
+
+pub command_unasked : (task : ClientTask) (read : Result CentreRows InputEnd) (m a : OutsideTold)
+    (status : Status) → GoesBehindTables task read m a status → status ≡ statuses.Usage → ⊥
+command_unasked task (Ok rows) m a status goes is =
+    script_unasked task rows goes.read goes.mid a status goes.goes is
+command_unasked task (Err end) m a status goes is =
+    unread_unasked (codes "tables") end m a status goes is

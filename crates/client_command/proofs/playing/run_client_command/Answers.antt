@@ -1,0 +1,19 @@
+use Rattle.command_words.specs.Words.{client_seen}
+use Rattle.client_command.proofs.Commands.{command_rises, command_unasked}
+use Rattle.client_command.proofs.playing.run_client_command.Goals as goal
+
+pub returns : goal.returns
+returns g c =
+    let read = c.read_tables-read in record {
+      read = read.result;
+      mid = g.O.Outside.told read.new.outside;
+      tables = read.ensures;
+      goes = c.play_read.ensures;
+      words = command_unasked (client_seen c.args.words) read.result
+          (g.O.Outside.told read.new.outside) (g.O.Outside.told c.play_read.new.outside)
+          c.play_read.result c.play_read.ensures;
+      outside = command_rises (client_seen c.args.words) read.result
+          (g.O.Outside.told c.args.outside.now) (g.O.Outside.told read.new.outside)
+          (g.O.Outside.told c.play_read.new.outside) c.play_read.result read.ensures
+          c.play_read.ensures;
+    }

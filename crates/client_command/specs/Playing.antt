@@ -1,0 +1,115 @@
+-- What a client's command leaves outside, and the status that it answers.
+use Rattle.std.specs.Prelude.{◌≡◌, ◌≢◌, ◌⊎◌, ℕ, List, Result, Ok, Err, None, Vec, codes}
+use Rattle.std.specs.declared.alloc.Global.{Global}
+use Rattle.outside.specs.Sink.{SinkTold}
+use Rattle.outside_links.specs.LinkAnswers.{LinkAnswers}
+use Rattle.outside_links.specs.Links.{LinkTold}
+use Rattle.outside_names.specs.Outside.{OutsideTold, ClosesOut}
+use Rattle.link_service.specs.LinkUses.{HasHeard}
+use Rattle.bilateral.specs.Rows.{CentreRows}
+use Rattle.centre_client.specs.declared.script.Script.{Script}
+use Rattle.centre_client.specs.declared.fault.ScriptFault.{ScriptFault}
+use Rattle.centre_client.specs.Scripts.{HasScriptFault, SpellsScript}
+use Rattle.client_service.specs.declared.run_end.RunEnd.{RunEnd}
+use Rattle.client_service.specs.Runs.{PlaysText}
+use Rattle.command_io.specs.declared.status.Status.{Status}
+use Rattle.command_io.specs.declared.status.Status.TheVariants as statuses
+use Rattle.command_io.specs.declared.input.TheConstants.{TEXT_LIMIT}
+use Rattle.command_io.specs.declared.input.InputEnd.{InputEnd}
+use Rattle.command_io.specs.declared.input.InputEnd.TheVariants.{Refused}
+use Rattle.command_io.specs.declared.input.Refusal.TheVariants.{BadLine}
+use Rattle.command_io.specs.Inputs.{ReadsInput}
+use Rattle.command_io.specs.OutsideUse.{Rises}
+use Rattle.command_io.specs.Runs.{EndsUnread}
+use Rattle.command_io.specs.Plans.{ReadsValue}
+use Rattle.command_words.specs.Words.{ClientTask}
+use Rattle.node_files.specs.Tables.{tables_in}
+use Rattle.client_command.specs.Opening.{OpensAll, OpensBoth, LeavesLink}
+use Rattle.client_command.specs.Ending.{TellsRunEnd}
+
+-- a client plays the script that a text spells over a link and standard output; the link is closed,
+-- and behind what the client showed is told how it ended
+pub record PlaysOpened (rows : CentreRows) (text : List ℕ) (link : LinkTold) (sink : SinkTold)
+    (before after : OutsideTold) (status : Status) : Type 0 where
+  pub gone : LinkTold
+  pub shown : SinkTold
+  pub end : RunEnd
+  pub plays : (first : LinkAnswers) → HasHeard link first
+      → PlaysText rows text link gone first sink shown end
+  pub mid : OutsideTold
+  pub leaves : LeavesLink before mid gone
+  pub told : SinkTold
+  pub tells : TellsRunEnd end shown told status
+  pub closes : ClosesOut mid after told
+
+-- the same, where the link and standard output are opened before
+pub record PlaysOver (task : ClientTask) (rows : CentreRows) (text : List ℕ)
+    (before after : OutsideTold) (status : Status) : Type 0 where
+  pub link : LinkTold
+  pub sink : SinkTold
+  pub opened : OutsideTold
+  pub opens : OpensAll task.address before opened link sink
+  pub plays : PlaysOpened rows text link sink opened after status
+
+-- one of them isn't handed out
+pub record IsUnconnected (task : ClientTask) (rows : CentreRows) (text : List ℕ)
+    (before after : OutsideTold) (status : Status) : Type 0 where
+  pub script : Script
+  pub spelled : SpellsScript rows text script
+  pub answers : status ≡ statuses.Outside
+  pub unopened : OpensBoth task.address before after None
+
+-- the client of a script connects to its node
+abbrev pub Connects : ClientTask → CentreRows → List ℕ → OutsideTold → OutsideTold → Status
+    → Type 0
+Connects task rows text before after status = PlaysOver task rows text before after status
+    ⊎ IsUnconnected task rows text before after status
+
+-- a text is no script: its first bad line is told, and nothing is connected to
+pub record RefusesScript (rows : CentreRows) (text : List ℕ) (before after : OutsideTold)
+    (status : Status) : Type 0 where
+  pub fault : ScriptFault
+  pub has : HasScriptFault rows text fault
+  pub told : EndsUnread (codes "script") (Refused (BadLine fault.line)) before after status
+
+-- what a text that is to be a script comes to; or memory is wanting, and nothing is touched
+abbrev pub PlaysScript : ClientTask → CentreRows → List ℕ → OutsideTold → OutsideTold → Status
+    → Type 0
+PlaysScript task rows text before after status = Connects task rows text before after status
+    ⊎ (RefusesScript rows text before after status
+    ⊎ ((status ≡ statuses.Memory) × (after ≡ before)))
+
+-- what the command does behind its script, which was read to this
+abbrev pub GoesBehindScript : ClientTask → CentreRows → Result (Vec ℕ Global) InputEnd
+    → OutsideTold → OutsideTold → Status → Type 0
+GoesBehindScript task rows (Ok text) before after status =
+    PlaysScript task rows text.items before after status
+GoesBehindScript task rows (Err end) before after status =
+    EndsUnread (codes "script") end before after status
+
+-- it reads its script, and goes on
+pub record ReadsScript (task : ClientTask) (rows : CentreRows) (before after : OutsideTold)
+    (status : Status) : Type 0 where
+  pub read : Result (Vec ℕ Global) InputEnd
+  pub mid : OutsideTold
+  pub reads : ReadsInput before mid task.script TEXT_LIMIT read
+  pub goes : GoesBehindScript task rows read mid after status
+
+-- what the command does behind its tables, which were read to this
+abbrev pub GoesBehindTables : ClientTask → Result CentreRows InputEnd → OutsideTold → OutsideTold
+    → Status → Type 0
+GoesBehindTables task (Ok rows) before after status = ReadsScript task rows before after status
+GoesBehindTables task (Err end) before after status =
+    EndsUnread (codes "tables") end before after status
+
+-- a run of `client`: what it leaves outside, and the status that it answers
+pub record ClientCommand (task : ClientTask) (before after : OutsideTold) (status : Status)
+    : Type 0 where
+  pub read : Result CentreRows InputEnd
+  pub mid : OutsideTold
+  pub tables : ReadsValue tables_in task.tables TEXT_LIMIT read before mid
+  pub goes : GoesBehindTables task read mid after status
+  -- it answers no other words
+  pub words : status ≢ statuses.Usage
+  -- a failure is answered only where the outside's count of faults rose
+  pub outside : status ≡ statuses.Outside → Rises before.faults after.faults

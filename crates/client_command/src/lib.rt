@@ -1,0 +1,8 @@
+//! The command `client`: a client over the link to another node that its words name.
+#![tactic(auto)]
+
+mod ending;
+mod opening;
+mod playing;
+
+pub use playing::run_client_command;
