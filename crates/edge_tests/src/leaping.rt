@@ -1,6 +1,8 @@
 //! A runtime whose clocks show what a test sets.
 use std::cell::Cell;
+use std::fmt::Display;
 use std::io;
+use std::io::Eprint;
 use std::net::{Net, SocketAddr};
 use std::time::{Clock, Duration};
 
@@ -32,5 +34,15 @@ impl<'a, R: Net> Net for Leaping<'a, R> {
 
     fn connect(&self, addr: SocketAddr) -> io::Result<R::Stream> {
         self.host.connect(addr)
+    }
+}
+
+impl<'a, R: Eprint> Eprint for Leaping<'a, R> {
+    fn eprint<D: Display + Drop>(&self, value: D) -> io::Result<()> {
+        self.host.eprint(value)
+    }
+
+    fn eprintln<D: Display + Drop>(&self, value: D) -> io::Result<()> {
+        self.host.eprintln(value)
     }
 }

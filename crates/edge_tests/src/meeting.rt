@@ -6,7 +6,7 @@ use outside_links::{Accept, Link, Listener, Recv};
 use outside_real::{RealLink, RealListener, TcpGate, TcpSocket};
 use std::alloc::{AllocError, Global};
 use std::io;
-use std::io::{ErrorKind, Read, Write};
+use std::io::{Eprint, ErrorKind, Read, Write};
 use std::net::{Net, TcpStream};
 use std::time::{Clock, Duration};
 
@@ -15,14 +15,14 @@ const ROUNDS: u32 = 10_000;
 
 /// The listener, the link that it gave, and the node that connected.
 #[derive(Drop)]
-pub(crate) struct Met<R: Net + Clock + Copy> {
+pub(crate) struct Met<R: Net + Clock + Eprint + Copy> {
     pub(crate) listener: RealListener<TcpGate<R>>,
     pub(crate) link: RealLink<TcpSocket<R>>,
     pub(crate) node: TcpStream,
 }
 
 /// A listener at a port that the system chose, and a node that connected.
-pub(crate) fn meet<R: Net<Stream = TcpStream> + Clock + Copy>(
+pub(crate) fn meet<R: Net<Stream = TcpStream> + Clock + Eprint + Copy>(
     runtime: R,
     alloc: Global,
 ) -> io::Result<Met<R>> {
@@ -39,7 +39,7 @@ pub(crate) fn meet<R: Net<Stream = TcpStream> + Clock + Copy>(
 }
 
 /// A node that connects. Its reads and writes wait a second at most.
-pub(crate) fn connect<R: Net<Stream = TcpStream> + Clock + Copy>(
+pub(crate) fn connect<R: Net<Stream = TcpStream> + Clock + Eprint + Copy>(
     runtime: R,
     listener: &RealListener<TcpGate<R>>,
 ) -> io::Result<TcpStream> {

@@ -8,6 +8,7 @@ ghost use Rattle.outside_real.specs.Streams.{is_standard_stream, is_standard_nam
 use crate::clock::RealClock;
 use crate::link::RealLink;
 use crate::listener::RealListener;
+use crate::notices::Notices;
 use crate::sink::WriteSink;
 use crate::source::ReadSource;
 use crate::stream::Stream;
@@ -17,7 +18,7 @@ use outside::{Sink, Source, count_fault};
 use outside_links::{Clock, Link, Listener};
 use outside_names::Outside;
 use std::alloc::Global;
-use std::io::Printer;
+use std::io::{Eprint, Printer};
 use std::marker::Model;
 use std::net::Net;
 use std::rt::Files;
@@ -51,7 +52,8 @@ impl<'a, R> RealOutside<'a, R> {
     }
 }
 
-impl<'a, R: Files + Input + Print + Net + time::Clock + Copy> Outside for RealOutside<'a, R> {
+impl<'a, R: Files + Input + Print + Eprint + Net + time::Clock + Copy> Outside
+    for RealOutside<'a, R> {
     type In = ReadSource<Stream<R::Reader, R::File>>;
 
     type Out = WriteSink<Stream<Printer<'a, R>, R::File>>;
@@ -102,11 +104,21 @@ impl<'a, R: Files + Input + Print + Net + time::Clock + Copy> Outside for RealOu
     {
         let listener = TcpGate::listen(*self.runtime, self.alloc, address).ok();
         self.faults = count_fault(self.faults, listener.is_none());
+        let notices = Notices::new(*self.runtime);
+        match &listener {
+            Some(_) => notices.tell(format_args!("listening at {address}")),
+            None => notices.tell(format_args!("can't listen at {address}")),
+        }
         listener
     }
 
     fn close_listener(&mut self, listener: RealListener<TcpGate<R>>) {
         self.faults = count_fault(self.faults, listener.faults() > 0);
+        let notices = Notices::new(*self.runtime);
+        if listener.faults() > 0 {
+            notices.tell("the listener failed");
+        }
+        notices.tell("listening no more");
     }
 
     fn connect(&mut self, address: &str) -> Option<RealLink<TcpSocket<R>>>

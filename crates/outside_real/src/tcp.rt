@@ -6,6 +6,7 @@ ghost use Rattle.outside_real.specs.RealLinks.{RealLinkState, new_real_link};
 use crate::gate::AcceptAttempt;
 use crate::link::RealLink;
 use crate::listener::RealListener;
+use crate::notices::Notices;
 use crate::socket::SocketAttempt;
 use libc::net::{SO_KEEPALIVE, SOL_SOCKET, setsockopt};
 use mio::event::Source;
@@ -13,7 +14,7 @@ use mio::net::{TcpListener, TcpStream};
 use mio::{Events, Interest, Poll, Token};
 use std::alloc::Global;
 use std::io;
-use std::io::{Read, Write};
+use std::io::{Eprint, Read, Write};
 use std::net::{Net, Shutdown, SocketAddr};
 use std::os::fd::AsRawFd;
 use std::time::{Clock, Duration, Instant};
@@ -58,11 +59,18 @@ pub struct TcpSocket<R> {
     stream: TcpStream,
     waiter: Waiter,
     runtime: R,
-    /// When it was accepted; none where it wasn't accepted but made.
-    accepted: Option<Instant>,
+    /// When and from where it was accepted; none where it wasn't accepted but made.
+    accepted: Option<Accepted>,
 }
 
-impl<R: Net + Clock + Copy> TcpSocket<R> {
+/// When a connection was accepted, and from where.
+#[derive(Clone, Copy)]
+struct Accepted {
+    at: Instant,
+    from: SocketAddr,
+}
+
+impl<R: Net + Clock + Eprint + Copy> TcpSocket<R> {
     /// A link to the node at an address such as `127.0.0.1:102` or `[::1]:102`, which may be silent
     /// for as long as it likes. An error: the text is no such address, no node has taken the
     /// connection within five seconds, or no memory or descriptor is left.
@@ -80,7 +88,7 @@ impl<R: Net + Clock + Copy> TcpSocket<R> {
         runtime: R,
         alloc: Global,
         mut stream: TcpStream,
-        accepted: Option<Instant>,
+        accepted: Option<Accepted>,
     ) -> io::Result<TcpSocket<R>> {
         stream.set_nodelay(true)?;
         keep_alive(&stream)?;
@@ -114,7 +122,7 @@ fn socket_address(text: &str) -> io::Result<SocketAddr> {
     }
 }
 
-impl<R: Clock> SocketAttempt for TcpSocket<R> {
+impl<R: Clock + Eprint + Copy> SocketAttempt for TcpSocket<R> {
     ghost reads = { λ before outcome after. ReadsAtMost outcome after.1 };
 
     ghost writes = { λ piece before outcome after. WritesAtMost outcome piece };
@@ -142,13 +150,17 @@ impl<R: Clock> SocketAttempt for TcpSocket<R> {
         let Some(accepted) = self.accepted else {
             return Some(0);
         };
-        let age = accepted.elapsed(&self.runtime).ok()?;
+        let age = accepted.at.elapsed(&self.runtime).ok()?;
         u64::try_from(age.as_millis()).ok()
     }
 
     fn shut(&mut self) {
         // A connection that the other node has ended can't be shut down.
         let _result = self.stream.shutdown(Shutdown::Both);
+        if let Some(accepted) = self.accepted {
+            let from = accepted.from;
+            Notices::new(self.runtime).tell(format_args!("closed the connection from {from}"));
+        }
     }
 }
 
@@ -173,7 +185,7 @@ pub struct TcpGate<R> {
     alloc: Global,
 }
 
-impl<R: Net + Clock + Copy> TcpGate<R> {
+impl<R: Net + Clock + Eprint + Copy> TcpGate<R> {
     /// Listens at an address such as `127.0.0.1:102` or `[::1]:102`, with `SO_REUSEADDR`; at port 0
     /// the system chooses the port. An error: the text is no such address, the port is in use or
     /// isn't allowed, or no memory or descriptor is left.
@@ -196,7 +208,7 @@ impl<R: Net + Clock + Copy> TcpGate<R> {
     }
 }
 
-impl<R: Net + Clock + Copy> AcceptAttempt for TcpGate<R> {
+impl<R: Net + Clock + Eprint + Copy> AcceptAttempt for TcpGate<R> {
     type Socket = TcpSocket<R>;
 
     // The system says nothing of who connects.
@@ -205,9 +217,12 @@ impl<R: Net + Clock + Copy> AcceptAttempt for TcpGate<R> {
     ghost waits = { λ before could after. ⊤ };
 
     fn attempt_accept(&mut self) -> io::Result<TcpSocket<R>> {
-        let (stream, _node) = self.listener.accept()?;
-        let accepted = Instant::now(&self.runtime)?;
-        TcpSocket::new(self.runtime, self.alloc, stream, Some(accepted))
+        let (stream, from) = self.listener.accept()?;
+        let at = Instant::now(&self.runtime)?;
+        let accepted = Accepted { at, from };
+        let socket = TcpSocket::new(self.runtime, self.alloc, stream, Some(accepted))?;
+        Notices::new(self.runtime).tell(format_args!("accepted a connection from {from}"));
+        Ok(socket)
     }
 
     fn wait(&mut self) -> bool {
