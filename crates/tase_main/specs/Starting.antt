@@ -12,10 +12,8 @@ use Rattle.outside_names.specs.Outside.{OutsideTold}
 use Rattle.command_io.specs.declared.status.Status.{Status}
 use Rattle.command_io.specs.declared.status.Status.TheVariants.{Memory}
 use Rattle.command_io.specs.Statuses.{code_of}
-use Rattle.command_io.specs.Saying.{texts_of}
-use Rattle.command_io.specs.Runs.{IsRun}
 use Rattle.command_words.specs.Words.{task_in}
-use Rattle.tase_tool.specs.Saying.{duty_of}
+use Rattle.tase_tool.specs.Running.{RunsTask}
 
 -- words in memory
 abbrev pub Words : Type 0
@@ -30,14 +28,22 @@ IsWordsFrom (Err error) result =
     (error_kind error ≡ InvalidData → IsOkAnd result (λ words. words.items ≡ []))
     × (error_kind error ≢ InvalidData → IsErr result)
 
+-- what is outside, and the count of threads that couldn't be surroundings_of
+pub record Surroundings : Type 0 where
+  pub outside : OutsideTold
+  pub refused : ℕ
+
+abbrev pub surroundings_of : OutsideTold → ℕ → Surroundings
+surroundings_of outside refused = record { outside = outside; refused = refused }
+
 -- words that are there are run; without memory for them nothing is done
-abbrev pub IsStart : Result Words AllocError → OutsideTold → OutsideTold → Status → Type 0
-IsStart (Ok words) before after status =
-    IsRun (duty_of (task_in (map string_bytes words.items)) (texts_of before)) before after status
+abbrev pub IsStart : Result Words AllocError → Surroundings → Surroundings → Status → Type 0
+IsStart (Ok words) before after status = RunsTask (task_in (map string_bytes words.items))
+    before.outside after.outside before.refused after.refused status
 IsStart (Err memory) before after status = (status ≡ Memory) × (after ≡ before)
 
 -- the words that the system gives are run once, and the exit status is that of how the run ended
-abbrev pub Starts : Result (IntoIter (String Global) Global) Error → OutsideTold → OutsideTold → ℕ
-    → Type 0
+abbrev pub Starts : Result (IntoIter (String Global) Global) Error → Surroundings → Surroundings
+    → ℕ → Type 0
 Starts given before after code = (words : Result Words AllocError) × IsWordsFrom given words
     × ((status : Status) × IsStart words before after status × (code ≡ code_of status))

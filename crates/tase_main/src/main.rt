@@ -1,11 +1,12 @@
-//! The program `tase`: makes the real outside, runs the command of its words, and ends with its
-//! status.
+//! The program `tase`: makes the real outside and a spawner of threads, runs the command of its
+//! words, and ends with its status.
 #![tactic(auto)]
 
 mod starting;
 #[cfg(test)]
 mod tests;
 
+use job_threads::ThreadSpawner;
 use outside_real::RealOutside;
 use starting::start;
 use std::env;
@@ -13,5 +14,6 @@ use std::process::ExitCode;
 
 fn main(rt: HostRuntime) -> ExitCode {
     let mut outside = RealOutside::new(rt.alloc(), &rt);
-    start(rt.alloc(), env::args(&rt), &mut outside)
+    let mut spawner = ThreadSpawner::new(rt.alloc(), Vec::new(rt.alloc()));
+    start(&rt, rt.alloc(), env::args(&rt), &mut outside, &mut spawner)
 }

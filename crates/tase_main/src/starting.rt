@@ -1,24 +1,41 @@
 //! How the program starts: its words as the system gives them, and the run of these.
-ghost use Rattle.std.specs.Prelude.{◌≡◌, drop, IfOk};
+ghost use Rattle.std.specs.Prelude.{◌≡◌, [], drop, IfOk};
 ghost use Rattle.std.specs.Vec.Iter.{into_iter_items};
 ghost use Rattle.std.specs.Process.{exit_status};
-ghost use Rattle.tase_main.specs.Starting.{IsWordsFrom, IsStart, Starts};
+ghost use Rattle.tase_main.specs.Starting.{IsWordsFrom, IsStart, Starts, surroundings_of};
 
 use command_io::Status;
+use job_threads::ThreadSpawner;
+use outside_links::Listener;
 use outside_names::Outside;
+use server_jobs::NodeJob;
 use std::alloc::{AllocError, Global};
 use std::env::Args;
 use std::io;
 use std::process::ExitCode;
+use std::sync::Wait;
+use std::thread::Threads;
 use tase_tool::run;
 
 /// Runs the words that the system gives, once, and answers the exit status that goes with how the
 /// run ended.
-pub(crate) fn start<O: Outside>(alloc: Global, given: io::Result<Args>, outside: &mut O) -> ExitCode
-    ensures { Starts given (O.told outside.old) (O.told outside.new) (exit_status result) }
+pub(crate) fn start<R: Threads + Wait + Copy + Send + 'static, O: Outside>(
+    rt: &R,
+    alloc: Global,
+    given: io::Result<Args>,
+    outside: &mut O,
+    spawner: &mut ThreadSpawner<NodeJob<<O::Listener as Listener>::Link, O::In, O::Clock>>,
+) -> ExitCode
+where
+    <O::Listener as Listener>::Link: Send + 'static,
+    O::In: Send + 'static,
+    O::Clock: Send + 'static,
+    requires { spawner.old.told.pending ≡ [] }
+    ensures { Starts given (surroundings_of (O.told outside.old) spawner.old.told.faults)
+        (surroundings_of (O.told outside.new) spawner.new.told.faults) (exit_status result) }
 {
     let words = words_from(alloc, given);
-    let status = run_words(alloc, words, outside);
+    let status = run_words(rt, alloc, words, outside, spawner);
     ExitCode::from(status)
 }
 
@@ -50,15 +67,23 @@ fn words_after_name(alloc: Global, args: Args) -> Result<Vec<String>, AllocError
 }
 
 // Runs these words. Without memory for them nothing is done.
-fn run_words<O: Outside>(
+fn run_words<R: Threads + Wait + Copy + Send + 'static, O: Outside>(
+    rt: &R,
     alloc: Global,
     words: Result<Vec<String>, AllocError>,
     outside: &mut O,
+    spawner: &mut ThreadSpawner<NodeJob<<O::Listener as Listener>::Link, O::In, O::Clock>>,
 ) -> Status
-    ensures { IsStart words (O.told outside.old) (O.told outside.new) result }
+where
+    <O::Listener as Listener>::Link: Send + 'static,
+    O::In: Send + 'static,
+    O::Clock: Send + 'static,
+    requires { spawner.old.told.pending ≡ [] }
+    ensures { IsStart words (surroundings_of (O.told outside.old) spawner.old.told.faults)
+        (surroundings_of (O.told outside.new) spawner.new.told.faults) result }
 {
     match words {
-        Ok(words) => run(alloc, &words, outside),
+        Ok(words) => run(rt, alloc, &words, outside, spawner),
         Err(AllocError) => Status::Memory,
     }
 }

@@ -22,7 +22,7 @@ use Rattle.bilateral.specs.Rows.{CentreRows}
 use Rattle.tase_replay.specs.Play.{Played, shown_of, scenario_of}
 use Rattle.node_core.specs.NodeState.{NodeState}
 use Rattle.command_words.specs.Words.{ReplayOptions, Task, limit_of, replays}
-use Rattle.tase_tool.specs.Tables.{tables_in}
+use Rattle.node_files.specs.Tables.{tables_in}
 use Rattle.tase_tool.specs.Saying.{kept_said, journal_names, setup_of, scenario_said, scenario_plan}
 use Rattle.tase_tool.specs.Saying.{duty_of, plan_of}
 use Rattle.tase_tool.specs.Sent.{node_of, SendsSoFar, SendsOn, SendsOver, SendsBy}

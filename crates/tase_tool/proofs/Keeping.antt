@@ -7,7 +7,7 @@ use Rattle.outside.specs.Sink.{SinkTold}
 use Rattle.outside_names.specs.Outside.{OutsideTold}
 use Rattle.command_io.specs.declared.status.Status.{Status}
 use Rattle.command_io.specs.declared.status.Status.TheVariants.{Done, Usage, Input, Outside, Full}
-use Rattle.command_io.specs.declared.status.Status.TheVariants.{Differs, Memory}
+use Rattle.command_io.specs.declared.status.Status.TheVariants.{Differs, Memory, Peer}
 use Rattle.command_io.specs.Statuses.{is_whole, OnWhole}
 use Rattle.command_io.specs.OutsideUse.{is_among}
 use Rattle.command_io.specs.Saying.{Said, with_file, duty_to_say}
@@ -21,7 +21,8 @@ use Rattle.tase_replay.specs.declared.playing.ReplayEnd.TheVariants as plays
 use Rattle.tase_replay.specs.Ends.{IsPlayed}
 use Rattle.tase_tool.specs.Playing.{EndsPlay}
 use Rattle.tase_tool.specs.Sent.{played_on, SendsSoFar}
-use Rattle.tase_tool.specs.Kept.{HasPlayed, KeepsJournal}
+use Rattle.node_files.specs.Kept.{KeepsJournal}
+use Rattle.tase_tool.specs.Kept.{HasPlayed}
 use Rattle.tase_tool.proofs.Sending.{output_of}
 
 -- the history behind a play whose end is told
@@ -80,6 +81,7 @@ module _ (b m a : OutsideTold) (said : Said) (alone : said.files ≡ [])
   IsRun-kept Input result run same kept = kept_whole Input result refl run same kept
   IsRun-kept Full result run same kept = kept_whole Full result refl run same kept
   IsRun-kept Differs result run same kept = kept_whole Differs result refl run same kept
+  IsRun-kept Peer result run same kept = kept_whole Peer result refl run same kept
   IsRun-kept Outside result run same kept = kept_cut Outside result refl run kept
   IsRun-kept Memory result run same kept = kept_cut Memory result refl run kept
 
@@ -115,5 +117,6 @@ module _ (b m a : OutsideTold) (said : Said) (alone : said.files ≡ [])
     SendsSoFar-kept Input result kept s = whole_before Input result refl s
     SendsSoFar-kept Full result kept s = whole_before Full result refl s
     SendsSoFar-kept Differs result kept s = whole_before Differs result refl s
+    SendsSoFar-kept Peer result kept s = whole_before Peer result refl s
     SendsSoFar-kept Outside result kept s = same_before Outside result kept s
     SendsSoFar-kept Memory result kept s = same_before Memory result kept s

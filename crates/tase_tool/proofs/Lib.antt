@@ -4,6 +4,6 @@ mod Playing
 mod Telling
 mod Sending
 mod Keeping
-mod Journals
 mod Verified
 mod Counting
+mod Tasks

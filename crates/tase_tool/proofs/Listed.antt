@@ -6,7 +6,7 @@ use Rattle.outside.specs.Sink.{SinkTold, AppendsAll, AppendsPart}
 use Rattle.outside.proofs.Writing.{Appends-append, AppendsPart-append, AppendsPart-front}
 use Rattle.command_io.specs.declared.status.Status.{Status}
 use Rattle.command_io.specs.declared.status.Status.TheVariants.{Done, Usage, Input, Outside, Full}
-use Rattle.command_io.specs.declared.status.Status.TheVariants.{Differs, Memory}
+use Rattle.command_io.specs.declared.status.Status.TheVariants.{Differs, Memory, Peer}
 use Rattle.command_io.specs.Runs.{TellsSaid}
 use Rattle.stream_listing.specs.Listings.{Listing, State, listing_of, yet_listed, with_text, ListsPiece}
 use Rattle.stream_listing.proofs.Listing.{with_text-twice}
@@ -24,6 +24,7 @@ lists_command listing k l Usage tells = absurd (no_usage listing.broken tells.0)
 lists_command listing k l Input tells = λ same. absurd cc
 lists_command listing k l Full tells = λ same. absurd cc
 lists_command listing k l Differs tells = λ same. absurd cc
+lists_command listing k l Peer tells = λ same. absurd cc
 lists_command listing k l Outside tells = λ same. absurd cc
 lists_command listing k l Memory tells = λ same. absurd cc
 
@@ -40,6 +41,8 @@ Tells-behind k m l text listing Input all tells =
 Tells-behind k m l text listing Full all tells =
     (tells.0, Appends-append k m l text listing.text false all tells.1)
 Tells-behind k m l text listing Differs all tells =
+    (tells.0, Appends-append k m l text listing.text false all tells.1)
+Tells-behind k m l text listing Peer all tells =
     (tells.0, Appends-append k m l text listing.text false all tells.1)
 Tells-behind k m l text listing Outside all tells =
     AppendsPart-append k m l text listing.text true all tells

@@ -1,19 +1,15 @@
 -- What a play says, line by line, and through a sink that gathers it.
 use Rattle.std.proofs.Common.{◌≡◌, ◌≢◌, ℕ, Bool, true, false, List, [], ◌++◌, take}
-use Rattle.std.proofs.Common.{drop, refl, sym, subst}
-use Rattle.std.specs.Prelude.{Ok, Err, codes}
-use Rattle.std.proofs.Common.{take-append-drop}
-use Rattle.outside.specs.declared.sink.SinkFailed.{SinkFailed}
-use Rattle.outside.specs.Sink.{SinkTold, Appends, AppendsAll, AppendsPart}
-use Rattle.outside.specs.Buffered.{buffered_told, Finishes}
+use Rattle.std.proofs.Common.{refl, sym, subst}
+use Rattle.std.specs.Prelude.{codes}
+use Rattle.outside.specs.Sink.{SinkTold, AppendsAll, AppendsPart}
 use Rattle.outside.proofs.Writing.{Appends-append, AppendsPart-append}
 use Rattle.outside.proofs.Writing.{AppendsPart-front}
-use Rattle.outside.proofs.Buffering.{buffered_empty, unbuffered, handed_all, handed_part}
 use Rattle.command_io.specs.declared.status.Status.{Status}
 use Rattle.command_io.specs.declared.status.Status.TheVariants.{Done, Usage, Input, Outside, Full}
-use Rattle.command_io.specs.declared.status.Status.TheVariants.{Differs, Memory}
+use Rattle.command_io.specs.declared.status.Status.TheVariants.{Differs, Memory, Peer}
 use Rattle.command_io.specs.declared.input.Refusal.TheVariants.{BadLine}
-use Rattle.command_io.specs.Saying.{Said, prints, refusal_text, full_text}
+use Rattle.command_io.specs.Saying.{prints, refusal_text, full_text}
 use Rattle.command_io.specs.Runs.{TellsSaid}
 use Rattle.tase_replay.specs.Play.{Played, PlayEnd, done, bad_line, history_full, printed_in}
 use Rattle.tase_replay.specs.Play.{shown_of, steps_of}
@@ -39,6 +35,7 @@ plays_command shown done k l Usage tells = absurd (let e = tells.0 in cc)
 plays_command shown done k l Input tells = λ same. absurd cc
 plays_command shown done k l Full tells = λ same. absurd cc
 plays_command shown done k l Differs tells = λ same. absurd cc
+plays_command shown done k l Peer tells = λ same. absurd cc
 plays_command shown done k l Outside tells = λ same. absurd cc
 plays_command shown done k l Memory tells = λ same. absurd cc
 plays_command shown (bad_line line) k l Done tells = λ same. absurd cc
@@ -46,6 +43,7 @@ plays_command shown (bad_line line) k l Usage tells = absurd (let e = tells.0 in
 plays_command shown (bad_line line) k l Input tells = λ same. absurd cc
 plays_command shown (bad_line line) k l Full tells = λ same. absurd cc
 plays_command shown (bad_line line) k l Differs tells = λ same. absurd cc
+plays_command shown (bad_line line) k l Peer tells = λ same. absurd cc
 plays_command shown (bad_line line) k l Outside tells = λ same. absurd cc
 plays_command shown (bad_line line) k l Memory tells = λ same. absurd cc
 plays_command shown (history_full weight limit) k l Done tells = λ same. absurd cc
@@ -54,6 +52,7 @@ plays_command shown (history_full weight limit) k l Input tells = λ same. absur
 plays_command shown (history_full weight limit) k l Outside tells = λ same. absurd cc
 plays_command shown (history_full weight limit) k l Full tells = λ same. absurd cc
 plays_command shown (history_full weight limit) k l Differs tells = λ same. absurd cc
+plays_command shown (history_full weight limit) k l Peer tells = λ same. absurd cc
 plays_command shown (history_full weight limit) k l Memory tells = λ same. absurd cc
 
 -- a refusal after what was shown
@@ -71,6 +70,8 @@ Tells-after answer k m l shown refusal Outside all tells =
 Tells-after answer k m l shown refusal Full all tells =
     (tells.0, Appends-append k m l shown refusal false all tells.1)
 Tells-after answer k m l shown refusal Differs all tells =
+    (tells.0, Appends-append k m l shown refusal false all tells.1)
+Tells-after answer k m l shown refusal Peer all tells =
     (tells.0, Appends-append k m l shown refusal false all tells.1)
 Tells-after answer k m l shown refusal Memory all tells =
     AppendsPart-append k m l shown refusal false all tells
@@ -114,85 +115,3 @@ Tells-played played history now k m l plays.Memory status went ends =
     subst (λ s. TellsSaid (played_said played) k l s) (sym ends.0)
     (subst (λ x. AppendsPart k x (played_said played).text false) (sym ends.1)
     (AppendsPart-played k m played went.count false went.shown))
-
-module _ (k m l : SinkTold) (gathered : List ℕ) (held : k.held ≡ 0) where
-  -- from the sink itself
-  from_sink : (octets : List ℕ) (failed : Bool)
-      → Appends (buffered_told k []) (buffered_told m gathered) octets failed
-      → Appends k (buffered_told m gathered) octets failed
-  from_sink octets failed wrote =
-      Appends-append k (buffered_told k []) (buffered_told m gathered) [] octets failed
-      (buffered_empty k) wrote
-
-  front_of_front : (a b : SinkTold) (count : ℕ) (octets : List ℕ) (failed : Bool)
-      → AppendsPart a b (take count octets) failed → AppendsPart a b octets failed
-  front_of_front a b count octets failed part =
-      subst (λ (o : List ℕ). AppendsPart a b o failed) (take-append-drop count octets)
-      (AppendsPart-front a b (take count octets) (drop count octets) failed part)
-
-  -- what was gathered is handed on
-  pub Tells-handed : (said : Said) (status : Status) → status ≢ Outside
-      → TellsSaid said (buffered_told k []) (buffered_told m gathered) status
-      → Finishes m l gathered (Ok tt) → TellsSaid said k l status
-  Tells-handed said Done other tells handed = (
-    tells.0,
-    handed_all k m l gathered handed.0 said.text tt (from_sink said.text false tells.1)
-        handed.1,
-  )
-  Tells-handed said Usage other tells handed = (
-    tells.0,
-    handed_all k m l gathered handed.0 said.text tt (from_sink said.text false tells.1)
-        handed.1,
-  )
-  Tells-handed said Input other tells handed = (
-    tells.0,
-    handed_all k m l gathered handed.0 said.text tt (from_sink said.text false tells.1)
-        handed.1,
-  )
-  Tells-handed said Full other tells handed = (
-    tells.0,
-    handed_all k m l gathered handed.0 said.text tt (from_sink said.text false tells.1)
-        handed.1,
-  )
-  Tells-handed said Differs other tells handed = (
-    tells.0,
-    handed_all k m l gathered handed.0 said.text tt (from_sink said.text false tells.1)
-        handed.1,
-  )
-  Tells-handed said Outside other tells handed = absurd (other refl)
-  Tells-handed said Memory other tells handed = (
-    tells.0,
-    handed_all k m l gathered handed.0 (take tells.0 said.text) tt
-        (from_sink (take tells.0 said.text) false tells.1) handed.1,
-  )
-
-  -- not all of it
-  pub Tells-unhanded : (said : Said) (status : Status) (failed : SinkFailed) → status ≢ Outside
-      → TellsSaid said (buffered_told k []) (buffered_told m gathered) status
-      → Finishes m l gathered (Err failed) → TellsSaid said k l Outside
-  Tells-unhanded said Done failed other tells handed =
-      handed_part k m l gathered handed.0 said.text failed held (from_sink said.text false tells.1)
-      handed.1
-  Tells-unhanded said Usage failed other tells handed =
-      handed_part k m l gathered handed.0 said.text failed held (from_sink said.text false tells.1)
-      handed.1
-  Tells-unhanded said Input failed other tells handed =
-      handed_part k m l gathered handed.0 said.text failed held (from_sink said.text false tells.1)
-      handed.1
-  Tells-unhanded said Full failed other tells handed =
-      handed_part k m l gathered handed.0 said.text failed held (from_sink said.text false tells.1)
-      handed.1
-  Tells-unhanded said Differs failed other tells handed =
-      handed_part k m l gathered handed.0 said.text failed held (from_sink said.text false tells.1)
-      handed.1
-  Tells-unhanded said Outside failed other tells handed = absurd (other refl)
-  Tells-unhanded said Memory failed other tells handed = front_of_front k l tells.0 said.text true
-      (handed_part k m l gathered handed.0 (take tells.0 said.text) failed held
-      (from_sink (take tells.0 said.text) false tells.1) handed.1)
-
-  -- a write failed before, and none comes after it
-  pub Tells-failed : (said : Said)
-      → TellsSaid said (buffered_told k []) (buffered_told m gathered) Outside → TellsSaid said k m Outside
-  Tells-failed said tells = front_of_front k m tells.0 said.text true
-      (unbuffered k m gathered (take tells.0 said.text) true held
-      (from_sink (take tells.0 said.text) true tells.1))

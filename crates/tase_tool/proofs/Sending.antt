@@ -6,7 +6,7 @@ use Rattle.outside_names.specs.Outside.{NameEntry, OutsideTold}
 use Rattle.outside.proofs.Writing.{Adds-none}
 use Rattle.command_io.specs.declared.status.Status.{Status}
 use Rattle.command_io.specs.declared.status.Status.TheVariants.{Done, Usage, Input, Outside, Full}
-use Rattle.command_io.specs.declared.status.Status.TheVariants.{Differs, Memory}
+use Rattle.command_io.specs.declared.status.Status.TheVariants.{Differs, Memory, Peer}
 use Rattle.command_io.specs.Saying.{prints}
 use Rattle.command_io.specs.Runs.{TellsSaid, Took, taken_of, output_name}
 use Rattle.command_io.specs.Statuses.{is_whole}
@@ -125,6 +125,7 @@ Took-none Usage taken = Adds-none taken
 Took-none Input taken = Adds-none taken
 Took-none Full taken = Adds-none taken
 Took-none Differs taken = Adds-none taken
+Took-none Peer taken = Adds-none taken
 Took-none Outside taken = (0, Adds-none taken)
 Took-none Memory taken = (0, Adds-none taken)
 

@@ -1,9 +1,9 @@
 pub mod Decoding
 pub mod Listing
 pub mod Saying
-pub mod Tables
 pub mod Sent
 pub mod Playing
 pub mod Kept
 pub mod Verifying
 pub mod Loading
+pub mod Running

@@ -17,9 +17,10 @@ use Rattle.load_run.specs.Generated.{load_tables, load_scenario}
 use Rattle.load_run.specs.Summaries.{summary_text}
 use Rattle.command_words.specs.Words.{ReplayOptions, limit_of, Task, replays, lists_stream}
 use Rattle.command_words.specs.Words.{no_options, decodes_pdu, verifies, loads}
+use Rattle.command_words.specs.Words.{serves, plays_client}
 use Rattle.tase_tool.specs.Decoding.{pdu_said}
 use Rattle.tase_tool.specs.Listing.{stream_said}
-use Rattle.tase_tool.specs.Tables.{tables_in}
+use Rattle.node_files.specs.Tables.{tables_in}
 use Rattle.tase_tool.specs.Verifying.{verify_plan}
 
 abbrev pub usage : Said
@@ -129,13 +130,19 @@ decode_plan name = reads_value (capture_asked name) capture_in (λ octets. says 
 abbrev pub list_plan : List ℕ → Plan
 list_plan name = reads (capture_asked name) (λ octets. says (stream_said (capture_in octets)))
 
--- what these words ask for
+-- nothing is read, and nothing said
+abbrev pub no_plan : Plan
+no_plan = says (prints Done [])
+
+-- what these words ask for; a server and a client go by no plan (RunsTask says what they do)
 abbrev pub plan_of : Task → Plan
 plan_of (replays tables scenario options) = replay_plan tables scenario options
 plan_of (lists_stream capture) = list_plan capture
 plan_of (decodes_pdu capture) = decode_plan capture
 plan_of (verifies question) = verify_plan question
 plan_of (loads rounds) = says (load_said rounds)
+plan_of (serves task) = no_plan
+plan_of (plays_client task) = no_plan
 
 -- what a run of these words owes, by what is told under each name
 abbrev pub duty_of : Option Task → (List ℕ → Text) → Duty

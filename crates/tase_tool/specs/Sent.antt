@@ -14,7 +14,7 @@ use Rattle.tase_replay.specs.Play.{TakenLine, Played, play, first_scene, steps_i
 use Rattle.tase_replay.specs.AllSent.{AreSentOver}
 use Rattle.tase_replay.specs.OrdersPrinted.{AreOrdersPrinted}
 use Rattle.command_words.specs.Words.{ReplayOptions, limit_of, Task, replays}
-use Rattle.tase_tool.specs.Tables.{tables_in}
+use Rattle.node_files.specs.Tables.{tables_in}
 use Rattle.tase_tool.specs.Saying.{setup_of}
 
 -- a new node of a centre

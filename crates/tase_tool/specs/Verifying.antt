@@ -22,7 +22,7 @@ use Rattle.tase_verify.specs.LinkText.{given_in}
 use Rattle.tase_verify.specs.Verifying.{journal_setup, answered_for, verdict_for}
 use Rattle.tase_tool.specs.declared.verifying.Meant.{Meant}
 use Rattle.command_words.specs.Words.{Question}
-use Rattle.tase_tool.specs.Tables.{tables_in}
+use Rattle.node_files.specs.Tables.{tables_in}
 
 -- two hexadecimal digits of an octet, or `-` where there is none
 abbrev pub octet_word : Option ℕ → List ℕ

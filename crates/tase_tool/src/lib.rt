@@ -3,11 +3,9 @@
 
 mod captures;
 mod decoding;
-mod journal;
 mod listing;
 mod loading;
 mod running;
-mod tables;
 mod verifying;
 
 pub use running::run;

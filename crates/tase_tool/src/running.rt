@@ -6,30 +6,36 @@ ghost use Rattle.command_io.specs.Runs.{IsRun, TellsSaid, Took, taken_of, output
 ghost use Rattle.command_io.specs.Plans.{says, duty_by, EndsPlan, octets_of};
 ghost use Rattle.command_words.specs.Words.{task_in, task_of, replays, limit_of, options_seen};
 ghost use Rattle.command_words.specs.Words.{AreOptions, IsLimited};
-ghost use Rattle.tase_tool.specs.Saying.{scenario_said, scenario_plan, replay_plan, duty_of};
-ghost use Rattle.tase_tool.specs.Saying.{plan_of, played_said, kept_said};
+ghost use Rattle.tase_tool.specs.Saying.{scenario_said, scenario_plan, replay_plan};
+ghost use Rattle.tase_tool.specs.Saying.{played_said, kept_said};
+ghost use Rattle.tase_tool.specs.Running.{RunsTask};
 ghost use Rattle.tase_tool.specs.Playing.{EndsPlay};
 ghost use Rattle.tase_tool.specs.Sent.{node_of, played_on, SendsSoFar, SendsOver, SendsBy};
 ghost use Rattle.tase_tool.specs.Kept.{HasPlayed};
 ghost use Rattle.command_io.specs.Statuses.{OnWhole};
 
 use crate::decoding::run_decode;
-use crate::journal::keep_journal;
 use crate::listing::run_listing;
 use crate::loading::run_load;
-use crate::tables::read_tables;
 use crate::verifying::run_verify;
 use bilateral::Centre;
+use client_command::run_client_command;
 use command_io::{
     InputEnd, OUTPUT, Refusal, Status, TEXT_LIMIT, end_unread, print, read_input, tell_full,
     tell_refusal,
 };
 use command_words::{Command, Options, read_command};
+use job_threads::ThreadSpawner;
 use node_core::Node;
+use node_files::{keep_journal, read_tables};
 use outside::{BufferedSink, Sink, SinkFailed};
+use outside_links::Listener;
 use outside_names::Outside;
+use serve_command::run_serve;
+use server_jobs::NodeJob;
 use std::alloc::{AllocError, Global};
-use std::sync::Arc;
+use std::sync::{Arc, Wait};
+use std::thread::Threads;
 use tase_replay::{ReplayEnd, replay};
 
 /// Runs the command of these words: `replay TABLES SCENARIO` plays a scenario over tables and
@@ -41,14 +47,17 @@ use tase_replay::{ReplayEnd, replay};
 /// JOURNAL KEY ORDINAL IN OUT` holds what an association was sent against its history and what its
 /// link gave; `load N` plays a scenario of N rounds, from 1 to 2,000, over tables of 64 peers, both
 /// generated, and prints what is counted of it. All is printed on standard output, which is `-` of
-/// the outside's sinks.
+/// the outside's sinks. `serve TABLES --journal FILE --listen ADDRESS` serves a node over these
+/// tables to whoever connects, with the jobs of the spawner, and `client TABLES SCRIPT --connect
+/// ADDRESS` plays a script over a connection to another node; both may wait for what comes from
+/// outside, and `run_serve` and `run_client_command` say what they do and answer.
 ///
-/// What it answers and prints is, where the outside tells its octets, what the definitions say of
-/// those octets alone: the tables that the first text spells, and over them what the scenario
-/// shows, each reply from the asking peer's own tables and its view of the history, up to the first
-/// bad line or the first event with which the history would weigh more than its limit, which is
-/// told so; or the messages that the octets of a capture are, each with its place, and the first
-/// rule that they break; or the PDU that they are, or that rule; or that the octets that an
+/// What every other command answers and prints is, where the outside tells its octets, what the
+/// definitions say of those octets alone: the tables that the first text spells, and over them what
+/// the scenario shows, each reply from the asking peer's own tables and its view of the history, up
+/// to the first bad line or the first event with which the history would weigh more than its limit,
+/// which is told so; or the messages that the octets of a capture are, each with its place, and the
+/// first rule that they break; or the PDU that they are, or that rule; or that the octets that an
 /// association was sent are those that its journal and its link account for, or where they first
 /// differ, or the first event of the journal that the link doesn't account for, with the status 6;
 /// or of all that the generated scenario shows over the generated tables the entries of its
@@ -59,48 +68,81 @@ use tase_replay::{ReplayEnd, replay};
 /// that they gave to the link, its octets in order, and behind them once how its connection ended.
 /// Where it answers 4 or 7, this holds of the first of these lines, and what went out is what they
 /// print, or a front part of it; or it holds of all, and a front part of all that is said went out.
-pub fn run<O: Outside>(alloc: Global, words: &[String], outside: &mut O) -> Status
-    ensures runs { let told = O.told outside.old in
-        IsRun (duty_of (task_in (map string_bytes words.now)) (texts_of told))
-        told (O.told outside.new) result }
+pub fn run<R: Threads + Wait + Copy + Send + 'static, O: Outside>(
+    rt: &R,
+    alloc: Global,
+    words: &[String],
+    outside: &mut O,
+    spawner: &mut ThreadSpawner<NodeJob<<O::Listener as Listener>::Link, O::In, O::Clock>>,
+) -> Status
+where
+    <O::Listener as Listener>::Link: Send + 'static,
+    O::In: Send + 'static,
+    O::Clock: Send + 'static,
+    requires none { spawner.old.told.pending ≡ [] }
+    ensures runs { RunsTask (task_in (map string_bytes words.now)) (O.told outside.old)
+        (O.told outside.new) spawner.old.told.faults spawner.new.told.faults result }
     ensures sent { let told = O.told outside.old in
         SendsBy (task_in (map string_bytes words.now)) (texts_of told) result
         (taken_of (told.sinks output_name))
         (taken_of ((O.told outside.new).sinks output_name)) }
+    ensures left { spawner.new.told.pending ≡ [] }
 {
     match read_command(alloc, words) {
-        Ok(command) => run_command(alloc, outside, command),
+        Ok(command) => run_command(rt, alloc, outside, spawner, command),
         Err(AllocError) => Status::Memory,
     }
 }
 
 // Runs the command that words ask for; where they ask for none, it says so.
-fn run_command<O: Outside>(alloc: Global, outside: &mut O, command: Option<Command<'_>>) -> Status
-    requires { IfSome command IsLimited }
-    ensures runs { let told = O.told outside.old in
-        IsRun (duty_of (option_map task_of command.entry) (texts_of told))
-        told (O.told outside.new) result }
+fn run_command<R: Threads + Wait + Copy + Send + 'static, O: Outside>(
+    rt: &R,
+    alloc: Global,
+    outside: &mut O,
+    spawner: &mut ThreadSpawner<NodeJob<<O::Listener as Listener>::Link, O::In, O::Clock>>,
+    command: Option<Command<'_>>,
+) -> Status
+where
+    <O::Listener as Listener>::Link: Send + 'static,
+    O::In: Send + 'static,
+    O::Clock: Send + 'static,
+    requires limited { IfSome command IsLimited }
+    requires none { spawner.old.told.pending ≡ [] }
+    ensures runs { RunsTask (option_map task_of command.entry) (O.told outside.old)
+        (O.told outside.new) spawner.old.told.faults spawner.new.told.faults result }
     ensures sent { let told = O.told outside.old in
         SendsBy (option_map task_of command.entry) (texts_of told) result
         (taken_of (told.sinks output_name))
         (taken_of ((O.told outside.new).sinks output_name)) }
+    ensures left { spawner.new.told.pending ≡ [] }
 {
     match command {
-        Some(command) => run_task(alloc, outside, command),
+        Some(command) => run_task(rt, alloc, outside, spawner, command),
         None => print(outside, Status::Usage, b"usage\n"),
     }
 }
 
 // Runs a command.
-fn run_task<O: Outside>(alloc: Global, outside: &mut O, command: Command<'_>) -> Status
-    requires { IsLimited command }
-    ensures runs { let told = O.told outside.old in
-        IsRun (duty_by (plan_of (task_of command.entry)) (texts_of told))
-        told (O.told outside.new) result }
+fn run_task<R: Threads + Wait + Copy + Send + 'static, O: Outside>(
+    rt: &R,
+    alloc: Global,
+    outside: &mut O,
+    spawner: &mut ThreadSpawner<NodeJob<<O::Listener as Listener>::Link, O::In, O::Clock>>,
+    command: Command<'_>,
+) -> Status
+where
+    <O::Listener as Listener>::Link: Send + 'static,
+    O::In: Send + 'static,
+    O::Clock: Send + 'static,
+    requires limited { IsLimited command }
+    requires none { spawner.old.told.pending ≡ [] }
+    ensures runs { RunsTask (Some (task_of command.entry)) (O.told outside.old)
+        (O.told outside.new) spawner.old.told.faults spawner.new.told.faults result }
     ensures sent { let told = O.told outside.old in
         SendsBy (Some (task_of command.entry)) (texts_of told) result
         (taken_of (told.sinks output_name))
         (taken_of ((O.told outside.new).sinks output_name)) }
+    ensures left { spawner.new.told.pending ≡ [] }
 {
     match command {
         Command::Replay {
@@ -112,6 +154,8 @@ fn run_task<O: Outside>(alloc: Global, outside: &mut O, command: Command<'_>) ->
         Command::DecodePdu { capture } => run_decode(alloc, outside, capture),
         Command::Verify { question } => run_verify(alloc, outside, question),
         Command::Load { rounds } => run_load(alloc, outside, rounds),
+        Command::Serve { words } => run_serve(rt, alloc, words, outside, spawner),
+        Command::Client { words } => run_client_command(rt, alloc, words, outside),
     }
 }
 

@@ -20,13 +20,13 @@ ghost use Rattle.tase_tool.specs.Verifying.{sent_plan, given_plan, journal_plan,
 ghost use Rattle.tase_tool.specs.Verifying as own;
 
 use crate::captures::read_octets;
-use crate::tables::read_tables;
 use association_check::{AnsweredEvent, Verdict};
 use bilateral::Centre;
 use command_io::{
     InputEnd, JOURNAL_LIMIT, Status, TEXT_LIMIT, end_unread, print, read_input, value_or_end,
 };
 use command_words::Question;
+use node_files::read_tables;
 use outside_names::Outside;
 use plain_text::{push_decimal, push_hex};
 use sbo_device::Key;

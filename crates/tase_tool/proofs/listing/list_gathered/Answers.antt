@@ -6,7 +6,7 @@ use Rattle.command_io.specs.Runs.{TellsSaid}
 use Rattle.command_io.specs.declared.status.Status.TheVariants.{Outside}
 use Rattle.stream_listing.specs.Listings.{listing_of}
 use Rattle.tase_tool.specs.Listing.{listing_said}
-use Rattle.tase_tool.proofs.Playing.{Tells-handed, Tells-unhanded, Tells-failed}
+use Rattle.node_files.proofs.Handed.{Tells-handed, Tells-unhanded, Tells-failed}
 use Rattle.tase_tool.proofs.listing.list_gathered.Goals as goal
 
 pub returns-in-Err : goal.returns-in-Err

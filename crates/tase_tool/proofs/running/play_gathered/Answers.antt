@@ -7,7 +7,7 @@ use Rattle.command_io.specs.declared.status.Status.TheVariants.{Outside, Memory}
 use Rattle.command_io.specs.Saying.{prints}
 use Rattle.tase_tool.specs.Saying.{played_said}
 use Rattle.tase_tool.specs.Sent.{played_on, SendsSoFar}
-use Rattle.tase_tool.proofs.Playing.{Tells-handed, Tells-unhanded, Tells-failed}
+use Rattle.node_files.proofs.Handed.{Tells-handed, Tells-unhanded, Tells-failed}
 use Rattle.tase_tool.proofs.Sending.{SendsSoFar-further, SendsSoFar-none}
 use Rattle.tase_tool.proofs.running.play_gathered.Goals as goal
 

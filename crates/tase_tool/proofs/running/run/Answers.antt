@@ -1,21 +1,21 @@
 use Rattle.std.proofs.Common.{refl, subst}
 use Rattle.command_io.specs.declared.status.Status.TheVariants.{Memory}
 use Rattle.command_io.specs.Saying.{texts_of}
-use Rattle.command_io.specs.Runs.{IsRun}
 use Rattle.std.specs.Prelude.{map, string_bytes}
-use Rattle.command_io.proofs.Running.{IsRun-idle}
 use Rattle.command_words.specs.Words.{task_in}
-use Rattle.tase_tool.specs.Saying.{duty_of}
+use Rattle.tase_tool.specs.Running.{RunsTask}
 use Rattle.tase_tool.specs.Sent.{SendsBy}
 use Rattle.tase_tool.proofs.Sending.{output_of}
-use Rattle.tase_tool.proofs.Duties.{task_command, SendsBy-still}
+use Rattle.tase_tool.proofs.Duties.{SendsBy-still}
+use Rattle.tase_tool.proofs.Tasks.{RunsTask-idle}
 use Rattle.tase_tool.proofs.running.run.Goals as goal
 
 pub returns-in-Ok-clause-runs : goal.returns-in-Ok-clause-runs
 returns-in-Ok-clause-runs g c =
-    subst (λ task. IsRun (duty_of task (texts_of (g.O.Outside.told c.args.outside.now)))
-    (g.O.Outside.told c.args.outside.now) (g.O.Outside.told c.run_command.new.outside)
-    c.run_command.result) c.in-Ok.ensures.asked c.run_command.ensures.runs
+    subst (λ task. RunsTask task (g.O.Outside.told c.args.outside.now)
+    (g.O.Outside.told c.run_command.new.outside) c.args.spawner.now.told.faults
+    c.run_command.new.spawner.told.faults c.run_command.result)
+    c.in-Ok.ensures.asked c.run_command.ensures.runs
 
 pub returns-in-Ok-clause-sent : goal.returns-in-Ok-clause-sent
 returns-in-Ok-clause-sent g c =
@@ -26,10 +26,9 @@ returns-in-Ok-clause-sent g c =
 
 pub returns-in-Err-clause-runs : goal.returns-in-Err-clause-runs
 returns-in-Err-clause-runs g c =
-    let task = task_in (map string_bytes c.args.words.now) in
-    let texts = texts_of (g.O.Outside.told c.args.outside.now) in
-    IsRun-idle (duty_of task texts) (g.O.Outside.told c.args.outside.now)
-    (task_command task texts c.in-Err.ensures.memory)
+    RunsTask-idle (task_in (map string_bytes c.args.words.now))
+    (g.O.Outside.told c.args.outside.now) c.args.spawner.now.told.faults
+    c.in-Err.ensures.memory
 
 pub returns-in-Err-clause-sent : goal.returns-in-Err-clause-sent
 returns-in-Err-clause-sent g c =
