@@ -1,5 +1,6 @@
 //! What a case is.
 
+use crate::network::Network;
 use std::alloc::{AllocError, Global};
 
 /// Octets that stand so many times one behind another.
@@ -30,13 +31,16 @@ pub(crate) enum Wanted {
     Octets(Vec<u8>),
     /// So many octets.
     Count(u64),
+    /// Whatever comes.
+    Any,
 }
 
 /// A file that may be written: what it must take, and the numbers of its writes that fail.
 #[derive(Drop)]
 pub(crate) struct WantedFile {
     pub(crate) name: String,
-    pub(crate) octets: Vec<u8>,
+    /// None where it may take anything.
+    pub(crate) octets: Option<Vec<u8>>,
     pub(crate) failed_writes: Vec<u64>,
 }
 
@@ -55,6 +59,9 @@ pub(crate) struct Case {
     pub(crate) is_cut: bool,
     pub(crate) wanted: Wanted,
     pub(crate) files: Vec<WantedFile>,
+    pub(crate) network: Network,
+    /// The numbers of the starts of threads that are refused.
+    pub(crate) refused_starts: Vec<u64>,
     pub(crate) status: u64,
 }
 
@@ -186,6 +193,8 @@ impl Case {
             is_cut: false,
             wanted: Wanted::Octets(Vec::new(alloc)),
             files: Vec::new(alloc),
+            network: Network::new(alloc),
+            refused_starts: Vec::new(alloc),
             status: 0,
         })
     }

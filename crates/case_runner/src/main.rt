@@ -7,6 +7,7 @@ mod cases;
 mod cutting;
 mod entries;
 mod judging;
+mod network;
 mod playing;
 mod reading;
 mod showing;
@@ -19,6 +20,8 @@ use showing::{bad_line, failure_line};
 use std::alloc::Global;
 use std::io::{self, Write};
 use std::process::ExitCode;
+use std::sync::Wait;
+use std::thread::Threads;
 use tally::Tally;
 
 fn tell_bad_lines<W: Write>(
@@ -34,25 +37,31 @@ fn tell_bad_lines<W: Write>(
     Ok(())
 }
 
-fn play_case<W: Write>(
+fn play_case<R: Threads + Wait + Copy + Send + 'static, W: Write>(
+    rt: &R,
     out: &mut W,
     alloc: Global,
     case: &Case,
     tally: &mut Tally,
 ) -> io::Result<()> {
-    let verdict = judge(alloc, case)?;
+    let verdict = judge(rt, alloc, case)?;
     tally.count(matches!(&verdict, Verdict::Passed));
     out.write_all(&failure_line(alloc, case, &verdict)?)
 }
 
-fn play_sheet<W: Write>(out: &mut W, alloc: Global, sheet: &Sheet) -> io::Result<Tally> {
+fn play_sheet<R: Threads + Wait + Copy + Send + 'static, W: Write>(
+    rt: &R,
+    out: &mut W,
+    alloc: Global,
+    sheet: &Sheet,
+) -> io::Result<Tally> {
     let mut tally = Tally {
         passed: 0,
         failed: 0,
     };
     tell_bad_lines(out, alloc, &sheet.bad_lines, &mut tally)?;
     for case in &sheet.cases {
-        play_case(out, alloc, case, &mut tally)?;
+        play_case(rt, out, alloc, case, &mut tally)?;
     }
     Ok(tally)
 }
@@ -60,7 +69,7 @@ fn play_sheet<W: Write>(out: &mut W, alloc: Global, sheet: &Sheet) -> io::Result
 fn main(rt: HostRuntime) -> io::Result<ExitCode> {
     let text = io::read_to_string(rt.alloc(), rt.reader())?;
     let sheet = read_cases(rt.alloc(), &text)?;
-    let tally = play_sheet(&mut io::writer(&rt), rt.alloc(), &sheet)?;
+    let tally = play_sheet(&rt, &mut io::writer(&rt), rt.alloc(), &sheet)?;
     let (passed, failed) = (tally.passed, tally.failed);
     println!(rt; "{passed} passed, {failed} failed")?;
     Ok(if tally.is_good() {

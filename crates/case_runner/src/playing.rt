@@ -1,9 +1,12 @@
 //! How a case is played: over an outside in memory.
 
 use crate::cases::{Case, FailedRead, Input, Wanted};
+use job_threads::ThreadSpawner;
 use outside::{ByteSink, TextSource};
 use outside_names::MemoryOutside;
 use std::alloc::{AllocError, Global};
+use std::sync::Wait;
+use std::thread::Threads;
 use tase_tool::run;
 
 /// How a command ended, what it printed, and what each file took that the case names.
@@ -12,6 +15,8 @@ pub(crate) struct Played {
     pub(crate) status: u64,
     pub(crate) shown: Vec<u8>,
     pub(crate) files: Vec<Vec<u8>>,
+    /// Whether each node took what it must.
+    pub(crate) is_told: bool,
 }
 
 // The most octets of room, and what there is of it beyond what is wanted.
@@ -36,6 +41,7 @@ fn room_of(case: &Case) -> usize {
     let wanted = match &case.wanted {
         Wanted::Octets(octets) => octets.len() as u64,
         Wanted::Count(count) => *count,
+        Wanted::Any => 0,
     };
     let room = match case.room {
         Some(room) => room,
@@ -77,12 +83,15 @@ fn outside_of(alloc: Global, case: &Case) -> Result<MemoryOutside, AllocError> {
     outside.put_out(alloc, "-", output)?;
     for file in &case.files {
         let fails = Vec::from_slice(alloc, &file.failed_writes)?;
-        let room = (file.octets.len() as u64)
-            .saturating_add(MORE_ROOM)
-            .min(MOST_ROOM);
+        let wanted = match &file.octets {
+            Some(octets) => octets.len() as u64,
+            None => MOST_ROOM / 16,
+        };
+        let room = wanted.saturating_add(MORE_ROOM).min(MOST_ROOM);
         let sink = ByteSink::new(alloc, room as usize, fails)?;
         outside.put_out(alloc, file.name.as_str(), sink)?;
     }
+    case.network.put(alloc, &mut outside)?;
     Ok(outside)
 }
 
@@ -108,29 +117,38 @@ fn files_of(
 }
 
 // Runs the words of a case.
-fn run_words(
+fn run_words<R: Threads + Wait + Copy + Send + 'static>(
+    rt: &R,
     alloc: Global,
     case: &Case,
     outside: &mut MemoryOutside,
 ) -> Result<Played, AllocError> {
-    let status = u64::from(run(alloc, &case.words, outside).code());
+    let refused = Vec::from_slice(alloc, &case.refused_starts)?;
+    let mut spawner = ThreadSpawner::new(alloc, refused);
+    let status = run(rt, alloc, &case.words, outside, &mut spawner);
     let shown = Vec::from_slice(alloc, written(outside, "-"))?;
     let files = files_of(alloc, case, outside)?;
     Ok(Played {
-        status,
+        status: u64::from(status.code()),
         shown,
         files,
+        is_told: case.network.is_told(outside),
     })
 }
 
 /// Plays a case as it stands.
-pub(crate) fn play(alloc: Global, case: &Case) -> Result<Played, AllocError> {
+pub(crate) fn play<R: Threads + Wait + Copy + Send + 'static>(
+    rt: &R,
+    alloc: Global,
+    case: &Case,
+) -> Result<Played, AllocError> {
     let mut outside = outside_of(alloc, case)?;
-    run_words(alloc, case, &mut outside)
+    run_words(rt, alloc, case, &mut outside)
 }
 
 /// Plays a case with another text under a name.
-pub(crate) fn play_with(
+pub(crate) fn play_with<R: Threads + Wait + Copy + Send + 'static>(
+    rt: &R,
     alloc: Global,
     case: &Case,
     name: &str,
@@ -138,5 +156,5 @@ pub(crate) fn play_with(
 ) -> Result<Played, AllocError> {
     let mut outside = outside_of(alloc, case)?;
     put_text(alloc, &mut outside, case, name, text)?;
-    run_words(alloc, case, &mut outside)
+    run_words(rt, alloc, case, &mut outside)
 }

@@ -2,6 +2,7 @@
 
 use crate::cases::{BadLine, Case, FailedRead, Input, Wanted, WantedFile, append_to, subject};
 use crate::entries::{Entry, entries_in};
+use crate::network::Node;
 use plain_text::{read_hex, read_number};
 use std::alloc::{AllocError, Global};
 
@@ -106,6 +107,10 @@ impl Case {
         if block.is_some() {
             return Err(Refused::NotRead);
         }
+        if rest == "any" {
+            self.wanted = Wanted::Any;
+            return Ok(());
+        }
         if let Some(digits) = rest.strip_prefix("octets ") {
             return self.wants_more(&octets_in(alloc, digits)?);
         }
@@ -118,16 +123,17 @@ impl Case {
     fn wants_more(&mut self, octets: &[u8]) -> Result<(), Refused> {
         match &mut self.wanted {
             Wanted::Octets(wanted) => wanted.extend_from_slice(octets)?,
-            Wanted::Count(_) => return Err(Refused::NotRead),
+            Wanted::Count(_) | Wanted::Any => return Err(Refused::NotRead),
         }
         Ok(())
     }
 
-    // `writes NAME`: a file that takes a block, or nothing.
-    fn take_file(&mut self, alloc: Global, name: &str, octets: Vec<u8>) -> Result<(), Refused> {
+    // `writes NAME`: a file that takes a block, or nothing; `writes any NAME`: it takes what it may.
+    fn take_file(&mut self, alloc: Global, rest: &str, octets: Vec<u8>) -> Result<(), Refused> {
+        let any = rest.strip_prefix("any ");
         let file = WantedFile {
-            name: String::from_str(alloc, name_in(name)?)?,
-            octets,
+            name: String::from_str(alloc, name_in(any.unwrap_or(rest))?)?,
+            octets: if any.is_some() { None } else { Some(octets) },
             failed_writes: Vec::new(alloc),
         };
         self.files.push(file).map_err(AllocError::from)?;
@@ -147,7 +153,72 @@ impl Case {
         Err(Refused::NotRead)
     }
 
-    // `fails read NAME N`, `fails write N`, `fails file NAME N`.
+    // `node ADDRESS`: a node that says a piece for each line of a block.
+    fn take_node(&mut self, alloc: Global, address: &str, block: &[u8]) -> Result<(), Refused> {
+        let mut says = Vec::new(alloc);
+        for line in block.split(|octet| *octet == b'\n') {
+            let digits = str::from_utf8(line).map_err(|_| Refused::NotRead)?;
+            let octets = octets_in(alloc, digits)?;
+            says.push(octets).map_err(AllocError::from)?;
+        }
+        let node = Node {
+            address: String::from_str(alloc, name_in(address)?)?,
+            says,
+            takes: None,
+            failed_recvs: Vec::new(alloc),
+            failed_sends: Vec::new(alloc),
+        };
+        self.network.nodes.push(node).map_err(AllocError::from)?;
+        Ok(())
+    }
+
+    // `takes ADDRESS` behind `node ADDRESS`: what that node must take.
+    fn take_taken(&mut self, alloc: Global, address: &str, block: &[u8]) -> Result<(), Refused> {
+        let digits = str::from_utf8(block).map_err(|_| Refused::NotRead)?;
+        let octets = octets_in(alloc, digits)?;
+        let node = self.network.node_at(address).ok_or(Refused::NotRead)?;
+        node.takes = Some(octets);
+        Ok(())
+    }
+
+    // `recv ADDRESS N`, `send ADDRESS N` behind `fails`.
+    fn take_failed_call(&mut self, rest: &str) -> Result<(), Refused> {
+        let (call, rest) = rest.split_once(' ').ok_or(Refused::NotRead)?;
+        let (address, number) = rest.split_once(' ').ok_or(Refused::NotRead)?;
+        let number = number_in(number)?;
+        let node = self.network.node_at(address).ok_or(Refused::NotRead)?;
+        match call {
+            "recv" => node.failed_recvs.push(number).map_err(AllocError::from)?,
+            "send" => node.failed_sends.push(number).map_err(AllocError::from)?,
+            _ => return Err(Refused::NotRead),
+        }
+        Ok(())
+    }
+
+    // `clock N ..`: what the clock shows.
+    fn take_clock(&mut self, rest: &str) -> Result<(), Refused> {
+        for word in rest.split_whitespace() {
+            let reading = number_in(word)?;
+            self.network
+                .readings
+                .push(reading)
+                .map_err(AllocError::from)?;
+        }
+        Ok(())
+    }
+
+    // `listens ADDRESS`: an address at which nodes may connect.
+    fn take_listens(&mut self, alloc: Global, address: &str) -> Result<(), Refused> {
+        let address = String::from_str(alloc, name_in(address)?)?;
+        self.network
+            .listens
+            .push(address)
+            .map_err(AllocError::from)?;
+        Ok(())
+    }
+
+    // `fails read NAME N`, `fails write N`, `fails file NAME N`, `fails clock N`, `fails recv
+    // ADDRESS N`, `fails send ADDRESS N`, `fails start N`.
     fn take_fails(&mut self, alloc: Global, rest: &str) -> Result<(), Refused> {
         if let Some(number) = rest.strip_prefix("write ") {
             self.failed_writes
@@ -158,7 +229,22 @@ impl Case {
         if let Some(file) = rest.strip_prefix("file ") {
             return self.take_failed_file(file);
         }
-        let read = rest.strip_prefix("read ").ok_or(Refused::NotRead)?;
+        if let Some(number) = rest.strip_prefix("start ") {
+            self.refused_starts
+                .push(number_in(number)?)
+                .map_err(AllocError::from)?;
+            return Ok(());
+        }
+        if let Some(number) = rest.strip_prefix("clock ") {
+            self.network
+                .failed_readings
+                .push(number_in(number)?)
+                .map_err(AllocError::from)?;
+            return Ok(());
+        }
+        let Some(read) = rest.strip_prefix("read ") else {
+            return self.take_failed_call(rest);
+        };
         let (name, number) = read.split_once(' ').ok_or(Refused::NotRead)?;
         let failed = FailedRead {
             name: String::from_str(alloc, name)?,
@@ -191,6 +277,8 @@ impl Case {
         match word {
             "text" => self.take_input(alloc, rest, block, 1),
             "writes" => self.take_file(alloc, rest, block),
+            "node" => self.take_node(alloc, rest, &block),
+            "takes" => self.take_taken(alloc, rest, &block),
             "repeat" => {
                 let (number, name) = rest.split_once(' ').ok_or(Refused::NotRead)?;
                 self.take_input(alloc, name, block, number_in(number)?)
@@ -211,6 +299,9 @@ impl Case {
             "text" => self.take_input(alloc, rest, Vec::new(alloc), 1)?,
             "writes" => self.take_file(alloc, rest, Vec::new(alloc))?,
             "fails" => self.take_fails(alloc, rest)?,
+            "node" => self.take_node(alloc, rest, b"")?,
+            "listens" => self.take_listens(alloc, rest)?,
+            "clock" => self.take_clock(rest)?,
             "room" => self.room = Some(number_in(rest)?),
             "cuts" => self.is_cut = true,
             "status" => self.status = number_in(rest)?,

@@ -80,6 +80,7 @@ fn push_played(
     )?;
     match &case.wanted {
         Wanted::Octets(octets) => push_shown(alloc, out, octets, &played.shown)?,
+        Wanted::Any => {}
         Wanted::Count(count) => {
             let (wanted, came) = (*count, played.shown.len());
             push(
@@ -87,6 +88,9 @@ fn push_played(
                 &format!(in alloc; "; {wanted} octets wanted, {came} came")?,
             )?;
         }
+    }
+    if !played.is_told {
+        push(out, "; a node took other octets")?;
     }
     push_files(alloc, out, case, played)
 }
@@ -99,10 +103,13 @@ fn push_files(
     played: &Played,
 ) -> Result<(), AllocError> {
     for (file, came) in case.files.iter().zip(played.files.iter()) {
-        if file.octets.as_slice() != came.as_slice() {
+        let Some(octets) = &file.octets else {
+            continue;
+        };
+        if octets.as_slice() != came.as_slice() {
             push(out, "; file ")?;
             push(out, file.name.as_str())?;
-            push_shown(alloc, out, &file.octets, came)?;
+            push_shown(alloc, out, octets, came)?;
         }
     }
     Ok(())
