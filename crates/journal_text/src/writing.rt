@@ -18,8 +18,8 @@ pub fn spell_entry(out: &mut Vec<u8>, entry: &Entry) -> Result<(), AllocError>
     spell_seat_event(out, entry.who, &entry.event)
 }
 
-/// Appends the text of the entry that has this seat and this event. After want of memory `out` is as
-/// before.
+/// Appends the text of the entry that has this seat and this event. After want of memory `out` is
+/// as before.
 pub fn spell_seat_event(out: &mut Vec<u8>, who: u64, event: &Event) -> Result<(), AllocError>
     ensures ok { OnOk result (out.new.items
         ≡ out.old.items ++ entry_text (record { who = who; event = event.now })) }

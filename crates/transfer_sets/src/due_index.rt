@@ -79,8 +79,8 @@ impl DueIndex {
         self.earliest <= now
     }
 
-    /// Notes the first moment, so that `may_have_come` is false until then: behind calls of `set` it
-    /// may be true from an earlier one on.
+    /// Notes the first moment, so that `may_have_come` is false until then: behind calls of `set`
+    /// it may be true from an earlier one on.
     pub fn settle(&mut self)
         ensures { self.new ≡ self.old }
     {
