@@ -33,7 +33,7 @@ const TURN: usize = 1;
 /// The word of the next seat number.
 const NUMBER: usize = 2;
 
-/// So many times a seat looks at the turn in a row before it sleeps.
+/// So many times a seat looks for a free turn in a row before it sleeps.
 const LOOKS: u32 = 100;
 
 /// An object that threads share: each call takes its turn, and steps the object alone.
@@ -210,7 +210,9 @@ impl<O: Object + Drop> Shared<O> {
         outcome
     }
 
-    /// Draws a ticket. Where the tickets are at their end it draws none, and waits without end.
+    /// Draws a ticket as soon as nobody is at the turn: who comes first then goes first, so that a
+    /// thread that runs need not wait for one that sleeps. Where the tickets are at their end it
+    /// draws none, and waits without end.
     fn draw_ticket<R: Wait>(&self, rt: &R, place: &mut Place<O>) -> u64
         requires of { place.old.table_id ≡ self.now.table }
         requires rest { place.old.me.0.phase ≡ Idle }
@@ -218,33 +220,15 @@ impl<O: Object + Drop> Shared<O> {
         ensures me { place.new.me ≡ (at_phase (Waiting result) place.old.me.0, place.old.me.1) }
         ensures room { result + 1 < 2 ^ 64 }
     {
-        for _ in rt.forever() {
-            let ticket = self.table.shared.peek(TICKET);
-            if ticket == u64::MAX {
-                self.table.shared.park(rt, TICKET, u32::MAX);
-                continue;
-            }
-            let shared = &self.table.shared;
-            if shared.compare_exchange::<DrawTicket>(place, TICKET, ticket, ticket + 1) == ticket {
-                return ticket;
-            }
-        }
-        unreachable!()
-    }
-
-    /// Waits for the ticket's turn, and has the object out.
-    fn await_turn<R: Wait>(&self, rt: &R, place: &mut Place<O>, ticket: u64)
-        requires of { place.old.table_id ≡ self.now.table }
-        requires waits { (place.old.me.0.phase ≡ Waiting ticket) × (place.old.me.1 ≡ []) }
-        ensures same { Stays place.old place.new }
-        ensures out { IsOut O.setup O.history ticket place.old.me.0 place.new.me }
-    {
+        let shared = &self.table.shared;
         let mut looks = 0;
         for _ in rt.forever() {
-            let found = self.table.shared.load::<ReadTurn>(place, TURN);
-            if found == ticket {
-                self.table.shared.load::<TakeOut<O>>(place, TURN);
-                return;
+            let turn = shared.peek(TURN);
+            if turn < u64::MAX
+                && shared.peek(TICKET) == turn
+                && shared.compare_exchange::<DrawTicket>(place, TICKET, turn, turn + 1) == turn
+            {
+                return turn;
             }
             if looks < LOOKS {
                 looks += 1;
@@ -252,7 +236,25 @@ impl<O: Object + Drop> Shared<O> {
                 continue;
             }
             looks = 0;
-            self.table.shared.park(rt, TURN, (found % (1 << 32)) as u32);
+            shared.park(rt, TURN, (turn % (1 << 32)) as u32);
+        }
+        unreachable!()
+    }
+
+    /// Has the object out, once the turn is the ticket's: at once, since no ticket is drawn while
+    /// another is at the turn.
+    fn await_turn<R: Wait>(&self, rt: &R, place: &mut Place<O>, ticket: u64)
+        requires of { place.old.table_id ≡ self.now.table }
+        requires waits { (place.old.me.0.phase ≡ Waiting ticket) × (place.old.me.1 ≡ []) }
+        ensures same { Stays place.old place.new }
+        ensures out { IsOut O.setup O.history ticket place.old.me.0 place.new.me }
+    {
+        for _ in rt.forever() {
+            let found = self.table.shared.load::<ReadTurn>(place, TURN);
+            if found == ticket {
+                self.table.shared.load::<TakeOut<O>>(place, TURN);
+                return;
+            }
         }
         unreachable!()
     }
@@ -271,7 +273,7 @@ impl<O: Object + Drop> Shared<O> {
         object
     }
 
-    /// Puts the object back and publishes the next turn.
+    /// Puts the object back, publishes the next turn and wakes one that sleeps for it.
     fn put_back(&self, place: &mut Place<O>, ticket: u64, object: O)
         requires of { place.old.table_id ≡ self.now.table }
         requires turn { (place.old.me.0.phase ≡ AtTurn ticket) × (ticket + 1 < 2 ^ 64) }
@@ -285,17 +287,7 @@ impl<O: Object + Drop> Shared<O> {
         shared.exchange(place, 0, Some(object));
         shared.load::<PutBack<O>>(place, TURN);
         shared.store::<Publish>(place, TURN, ticket + 1);
-        self.wake_others(ticket);
-    }
-
-    /// Wakes those that wait for a later turn, if a ticket behind this one was drawn. Who draws one
-    /// after this look finds the published turn.
-    fn wake_others(&self, ticket: u64)
-        requires { ticket + 1 < 2 ^ 64 }
-    {
-        if self.table.shared.peek(TICKET) != ticket + 1 {
-            self.table.shared.wake_all(TURN);
-        }
+        shared.wake_one(TURN);
     }
 
     /// Draws a seat number. Where the numbers are at their end it draws none, and waits without
