@@ -1,11 +1,10 @@
 -- What contracts see of a spawner of threads, and which starts it refuses by itself.
-use Rattle.std.specs.Prelude.{◌≡◌, ℕ, ◌≤◌, ◌⊎◌, List, length, Contains}
+use Rattle.std.specs.Prelude.{◌≡◌, ℕ, List, Contains}
 use Rattle.outside.specs.Faults.{next_count}
 use Rattle.outside_links.specs.Jobs.{SpawnerTold}
 use Rattle.outside_links.specs.declared.job.Start.{Start}
 use Rattle.job_threads.specs.declared.thread_job.Unstarted.{Unstarted}
 use Rattle.job_threads.specs.declared.thread_job.Unstarted.TheVariants.{Memory, Refused}
-use Rattle.job_threads.specs.declared.spawner.TheConstants.{MOST_THREADS}
 
 -- what it tells, the numbers of the starts that it refuses, the number of the next start
 pub record SpawnerState (J : Type 0) : Type 0 where
@@ -13,10 +12,9 @@ pub record SpawnerState (J : Type 0) : Type 0 where
   pub refuses : List ℕ
   pub starts : ℕ
 
--- the next start is one of those, or there are threads enough
+-- the next start is one of those
 abbrev pub RefusesNext : {J : Type 0} → SpawnerState J → Type 0
-RefusesNext state =
-    Contains state.refuses state.starts ⊎ (MOST_THREADS ≤ length state.told.pending)
+RefusesNext state = Contains state.refuses state.starts
 
 -- a job that wasn't started comes back, with a fault exactly where no thread could be made
 abbrev pub HandsBack : {J : Type 0} → SpawnerState J → SpawnerState J → Unstarted J → Start J

@@ -2,6 +2,7 @@
 #![tactic(auto)]
 
 mod spawner;
+mod started;
 mod thread_job;
 
 pub use spawner::{MOST_THREADS, ThreadSpawner};

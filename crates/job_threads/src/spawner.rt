@@ -1,12 +1,12 @@
 //! A spawner over threads of std.
-ghost use Rattle.std.specs.Prelude.{◌≡◌, ◌≤◌, ◌↔◌, [], map, length, Contains, IsTrue};
+ghost use Rattle.std.specs.Prelude.{◌≡◌, ◌↔◌, [], Contains, IsTrue};
 ghost use Rattle.outside.specs.Faults.{next_count};
 ghost use Rattle.outside_links.specs.Jobs.{StartsJob, FinishesFirst};
 ghost use Rattle.outside_links.specs.declared.job.Start.{Start};
-ghost use Rattle.job_threads.specs.declared.spawner.TheConstants.{MOST_THREADS};
 ghost use Rattle.job_threads.specs.Starting.{SpawnerState, RefusesNext, HandsBack};
 
-use crate::thread_job::{JobThread, Outcome, Unstarted, spawn_job, wait_forever};
+use crate::started::{StartedJob, settle_all};
+use crate::thread_job::Unstarted;
 use outside::count_fault;
 use outside_links::{Job, Start};
 use std::alloc::Global;
@@ -15,18 +15,24 @@ use std::marker::Model;
 use std::sync::Wait;
 use std::thread::Threads;
 
-/// How many threads there are at most of which nothing was handed back yet.
+/// How many threads there are at most that are not over.
 pub const MOST_THREADS: usize = 1024;
 
+/// After how many starts the threads that are over are joined.
+const SETTLE_AFTER: u64 = 64;
+
 /// Starts each job in a thread of its own, and hands back what came of them in the order of their
-/// starts. Starts are numbered from 0, and some of them it refuses by itself.
+/// starts. Threads that are over are joined as it goes, so that a run may start any number of jobs.
+/// Starts are numbered from 0, and some of them it refuses by itself.
 #[derive(Drop)]
 pub struct ThreadSpawner<J: Job> {
     alloc: Global,
     refuses: Vec<u64>,
     starts: u64,
     faults: u64,
-    pending: VecDeque<JobThread<J>>,
+    pending: VecDeque<StartedJob<J>>,
+    /// How many of these are in threads that were not joined.
+    threads: usize,
 }
 
 impl<J: Job> Model for ThreadSpawner<J> {
@@ -34,7 +40,7 @@ impl<J: Job> Model for ThreadSpawner<J> {
 
     ghost view = { λ s. record {
       told = record {
-        pending = map (λ thread. thread.promise.job.value) s.pending.items;
+        pending = s.pending.items;
         faults = s.faults;
       };
       refuses = s.refuses.items;
@@ -64,6 +70,7 @@ impl<J: Job> ThreadSpawner<J> {
             starts: 0,
             faults: 0,
             pending: VecDeque::new(alloc),
+            threads: 0,
         }
     }
 
@@ -72,13 +79,6 @@ impl<J: Job> ThreadSpawner<J> {
         ensures { result ≡ self.now.told.faults }
     {
         self.faults
-    }
-
-    /// True exactly where there are threads enough.
-    fn is_full(&self) -> bool
-        ensures { IsTrue result ↔ MOST_THREADS ≤ length self.now.told.pending }
-    {
-        self.pending.len() >= MOST_THREADS
     }
 
     /// Hands the job back, with a fault exactly where no thread could be made.
@@ -99,24 +99,40 @@ impl<J: Job + Send + Drop + 'static> ThreadSpawner<J>
 where
     J::Done: Send + Drop + 'static,
 {
-    /// Starts the job in a thread of its own.
+    /// Whether one more thread may be started. Where there are too many, and behind so many starts,
+    /// it joins those that are over before.
+    fn has_room<R: Threads + Wait>(&mut self, rt: &R) -> bool
+        ensures { self.new ≡ self.old }
+    {
+        if self.starts % SETTLE_AFTER == 0 || self.threads >= MOST_THREADS {
+            self.threads = settle_all(rt, &mut self.pending);
+        }
+        self.threads < MOST_THREADS
+    }
+
+    /// Starts the job in a thread of its own. It is refused, with a fault, where `MOST_THREADS` are
+    /// not over.
     pub fn start<R: Threads + Wait + Copy + Send + 'static>(&mut self, rt: &R, job: J) -> Start<J>
         ensures starts { StartsJob self.old.told self.new.told job result }
         ensures refuses { RefusesNext self.old → result ≡ Start.Refused job }
         ensures number { self.new.starts ≡ next_count self.old.starts }
         ensures same { self.new.refuses ≡ self.old.refuses }
     {
-        let is_refused = is_among(self.starts, &self.refuses) || self.is_full();
+        let is_refused = is_among(self.starts, &self.refuses);
         self.starts = count_fault(self.starts, true);
         if is_refused {
+            return self.hand_back(Unstarted::Refused(job));
+        }
+        if !self.has_room(rt) {
             return self.hand_back(Unstarted::Refused(job));
         }
         if self.pending.reserve(1).is_err() {
             return self.hand_back(Unstarted::Memory(job));
         }
-        match spawn_job(rt, self.alloc, job) {
-            Ok(thread) => {
-                self.pending.push_back(thread).unwrap();
+        match StartedJob::start(rt, self.alloc, job) {
+            Ok(started) => {
+                self.pending.push_back(started).unwrap();
+                self.threads = self.threads.saturating_add(1);
                 Start::Started
             }
             Err(unstarted) => self.hand_back(unstarted),
@@ -130,10 +146,12 @@ where
         ensures same { self.new ≡ record self.old { told = self.new.told } }
     {
         match self.pending.pop_front() {
-            Some(thread) => match thread.join(rt) {
-                Outcome::Ran(done) => Some(done),
-                Outcome::Unrun(_) => wait_forever(rt),
-            },
+            Some(started) => {
+                if started.is_in_thread() {
+                    self.threads = self.threads.saturating_sub(1);
+                }
+                Some(started.finish(rt))
+            }
             None => None,
         }
     }

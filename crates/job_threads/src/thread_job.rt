@@ -4,6 +4,7 @@ ghost use Rattle.job_threads.specs.Threading.{ComesOf, IsSpawned};
 
 use outside_links::Job;
 use std::alloc::Global;
+use std::marker::Model;
 use std::snapshot::Snapshot;
 use std::sync::atomic::{AtomicBool, Ordering};
 use std::sync::{Arc, Wait};
@@ -29,8 +30,38 @@ impl<J: Job> Promise<Outcome<J, J::Done>> for OfJob<J> {
     ghost kept_by = { λ promise outcome. ComesOf J.may_give promise.job.value outcome };
 }
 
-/// A thread that was started for a job.
-pub type JobThread<J> = PromisedHandle<Outcome<J, <J as Job>::Done>, OfJob<J>>;
+/// A thread that was started for a job, and whether it is over.
+#[derive(Drop)]
+pub struct JobThread<J: Job> {
+    handle: PromisedHandle<Outcome<J, J::Done>, OfJob<J>>,
+    is_over: Arc<AtomicBool>,
+}
+
+// What contracts see: the job.
+impl<J: Job> Model for JobThread<J> {
+    ghost Value = { J };
+
+    ghost view = { λ s. s.handle.promise.job.value };
+}
+
+impl<J: Job> JobThread<J> {
+    /// True only where the job has run: the thread then ends at once.
+    pub fn is_over(&self) -> bool {
+        self.is_over.load(Ordering::SeqCst)
+    }
+
+    /// Waits for what comes of the job.
+    pub fn join<R: Threads + Wait>(self, rt: &R) -> J::Done
+    where
+        J: Drop,
+        ensures { J.may_give self result }
+    {
+        match self.handle.join(rt) {
+            Outcome::Ran(done) => done,
+            Outcome::Unrun(_) => wait_forever(rt),
+        }
+    }
+}
 
 /// Why no thread was started for a job. Nothing of the job ran, and it comes back.
 #[derive(Drop)]
@@ -41,18 +72,21 @@ pub enum Unstarted<J> {
     Refused(J),
 }
 
-/// Runs the job, unless it was called back.
+/// Runs the job, and says last that it is over. A job of which that is said before was called back:
+/// it isn't run.
 fn run_unless<J: Job, R: Wait + Copy>(
     rt: R,
     job: J,
-    is_called_back: Arc<AtomicBool>,
+    is_over: Arc<AtomicBool>,
 ) -> Outcome<J, J::Done>
     ensures { ComesOf J.may_give job result }
 {
-    if is_called_back.load(Ordering::SeqCst) {
+    if is_over.load(Ordering::SeqCst) {
         return Outcome::Unrun(job);
     }
-    Outcome::Ran(job.run(&rt))
+    let done = job.run(&rt);
+    is_over.store(true, Ordering::SeqCst);
+    Outcome::Ran(done)
 }
 
 /// Waits without end.
@@ -72,12 +106,12 @@ pub fn spawn_job<J: Job + Send + Drop + 'static, R: Threads + Wait + Copy + Send
 ) -> Result<JobThread<J>, Unstarted<J>>
 where
     J::Done: Send + Drop + 'static,
-    ensures { IsSpawned (λ thread. thread.promise.job.value) job result }
+    ensures { IsSpawned job result }
 {
-    let Ok(is_called_back) = Arc::new(alloc, AtomicBool::new(false)) else {
+    let Ok(is_over) = Arc::new(alloc, AtomicBool::new(false)) else {
         return Err(Unstarted::Memory(job));
     };
-    let Ok(theirs) = is_called_back.clone() else {
+    let Ok(theirs) = is_over.clone() else {
         return Err(Unstarted::Memory(job));
     };
     let own = *rt;
@@ -85,9 +119,9 @@ where
         job: Snapshot::of(&job),
     };
     match thread::spawn_with(rt, promise, move || run_unless(own, job, theirs)) {
-        Ok(thread) => Ok(thread),
+        Ok(handle) => Ok(JobThread { handle, is_over }),
         Err(refused) => {
-            is_called_back.store(true, Ordering::SeqCst);
+            is_over.store(true, Ordering::SeqCst);
             match (refused.value)() {
                 Outcome::Unrun(back) => Err(Unstarted::Refused(back)),
                 Outcome::Ran(_) => wait_forever(rt),
