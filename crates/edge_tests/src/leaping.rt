@@ -1,4 +1,4 @@
-//! A runtime whose clocks show what a test sets.
+//! A runtime whose clocks show what a test sets, and whose notices go nowhere.
 use std::cell::Cell;
 use std::fmt::Display;
 use std::io;
@@ -37,12 +37,12 @@ impl<'a, R: Net> Net for Leaping<'a, R> {
     }
 }
 
-impl<'a, R: Eprint> Eprint for Leaping<'a, R> {
-    fn eprint<D: Display + Drop>(&self, value: D) -> io::Result<()> {
-        self.host.eprint(value)
+impl<'a, R> Eprint for Leaping<'a, R> {
+    fn eprint<D: Display + Drop>(&self, _value: D) -> io::Result<()> {
+        Ok(())
     }
 
-    fn eprintln<D: Display + Drop>(&self, value: D) -> io::Result<()> {
-        self.host.eprintln(value)
+    fn eprintln<D: Display + Drop>(&self, _value: D) -> io::Result<()> {
+        Ok(())
     }
 }

@@ -1,12 +1,13 @@
 //! Links over real connections.
 use crate::leaping::Leaping;
-use crate::meeting::{Met, carry_in, carry_out, fill, meet, octets};
+use crate::meeting::{Met, carry_in, carry_out, connect, fill, meet, octets};
 use outside::WriteEnd;
 use outside_links::{Accept, Link, Listener, Recv};
 use outside_real::{TcpGate, TcpSocket};
 use std::cell::Cell;
 use std::io::{Error, ErrorKind, Read, Write};
 use std::net::Shutdown;
+use std::os::fd::AsRawFd;
 use std::test::Fail;
 use std::time::{Duration, Instant};
 
@@ -98,6 +99,25 @@ fn a_closed_link_ends_both_ways(rt: HostRuntime) -> Result<(), Fail> {
     assert_eq!(rt; link.faults(), 0);
     listener.retire(link);
     assert_eq!(rt; listener.faults(), 0);
+    Ok(())
+}
+
+#[test]
+fn a_closed_link_gives_its_descriptor_back(rt: HostRuntime) -> Result<(), Fail> {
+    let Met {
+        listener,
+        mut link,
+        node,
+    } = meet(rt, rt.alloc())?;
+    let before = connect(rt, &listener)?;
+    let highest = before.as_raw_fd();
+    link.close();
+    // the system gives the lowest that is free
+    let behind = connect(rt, &listener)?;
+    assert!(rt; behind.as_raw_fd() < highest);
+    assert_eq!(rt; link.send(b"gone"), WriteEnd::Failed);
+    assert_eq!(rt; link.faults(), 1);
+    drop(node);
     Ok(())
 }
 

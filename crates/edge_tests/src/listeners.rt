@@ -1,7 +1,9 @@
 //! Listeners at real addresses.
+use crate::leaping::Leaping;
 use crate::meeting::{connect, meet};
 use outside_links::{Accept, Link, Listener, Recv};
 use outside_real::TcpGate;
+use std::cell::Cell;
 use std::io::{Read, Write};
 use std::test::Fail;
 use std::time::{Duration, Instant};
@@ -23,11 +25,16 @@ fn no_node_is_idle(rt: HostRuntime) -> Result<(), Fail> {
 
 #[test]
 fn three_hundred_links_at_once(rt: HostRuntime) -> Result<(), Fail> {
-    let mut listener = TcpGate::listen(rt, rt.alloc(), "127.0.0.1:0")?;
+    let seconds = Cell::new(1000u64);
+    let quiet = Leaping {
+        host: rt,
+        seconds: &seconds,
+    };
+    let mut listener = TcpGate::listen(quiet, rt.alloc(), "127.0.0.1:0")?;
     let mut nodes = Vec::new(rt.alloc());
     let mut links = Vec::new(rt.alloc());
     for _round in 0..300 {
-        nodes.push(connect(rt, &listener)?)?;
+        nodes.push(connect(quiet, &listener)?)?;
         if let Accept::Link(link) = listener.accept() {
             links.push(link)?;
         }

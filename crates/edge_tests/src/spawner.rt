@@ -93,6 +93,28 @@ fn start_all<R: Threads + Wait + Copy + Send + 'static>(
     Ok(())
 }
 
+/// Starts so many jobs, each once the one before has ended.
+fn start_in_turn<R: Threads + Wait + Copy + Send + 'static>(
+    rt: &R,
+    alloc: Global,
+    spawner: &mut ThreadSpawner<Numbered>,
+    count: u64,
+) -> Result<(), AllocError> {
+    let ended = Arc::new(alloc, AtomicU64::new(0))?;
+    for number in 0..count {
+        let job = Numbered {
+            number,
+            after: 0,
+            ended: ended.clone()?,
+        };
+        let Start::Started = spawner.start(rt, job) else {
+            return Err(AllocError);
+        };
+        await_ended(&ended, number + 1);
+    }
+    Ok(())
+}
+
 /// Starts a job, and gives its number where it comes back refused.
 fn start_one<R: Threads + Wait + Copy + Send + 'static>(
     rt: &R,
@@ -112,6 +134,19 @@ fn in_the_order_of_their_starts(rt: HostRuntime) -> Result<(), Fail> {
     let mut spawner = ThreadSpawner::new(alloc, Vec::new(alloc));
     start_all(&rt, alloc, &mut spawner, 50)?;
     for number in 0..50 {
+        assert_eq!(rt; spawner.finish_one(&rt), comes_of(number));
+    }
+    assert_eq!(rt; spawner.finish_one(&rt), None);
+    assert_eq!(rt; spawner.faults(), 0);
+    Ok(())
+}
+
+#[test]
+fn more_jobs_than_threads(rt: HostRuntime) -> Result<(), Fail> {
+    let alloc = rt.alloc();
+    let mut spawner = ThreadSpawner::new(alloc, Vec::new(alloc));
+    start_in_turn(&rt, alloc, &mut spawner, 2_000)?;
+    for number in 0..2_000 {
         assert_eq!(rt; spawner.finish_one(&rt), comes_of(number));
     }
     assert_eq!(rt; spawner.finish_one(&rt), None);

@@ -1,5 +1,7 @@
 -- A standard stream or a file, and what the objects made of them tell: their faults alone.
-use Rattle.std.specs.Prelude.{Bool, true, false, ℕ, List, [], Option, None, Result, codes, bytes_eq}
+use Rattle.std.specs.Prelude.{Bool, true, false, ℕ, List, [], Option, None, Some, Result, codes}
+use Rattle.std.specs.Prelude.{bytes_eq}
+use Rattle.std.specs.Global.{Box}
 use Rattle.std.specs.Io.{ReadsAtMost, WritesAtMost}
 use Rattle.std.specs.Io.KnownBytes.{ReadConsumes, WriteAppends}
 use Rattle.std.specs.declared.io.Error.{Error}
@@ -40,6 +42,12 @@ is_standard_stream {S} {F} (File file) = false
 -- the name of the standard stream is `-`
 abbrev pub is_standard_name : List ℕ → Bool
 is_standard_name name = bytes_eq name (codes "-")
+
+-- what a reader in memory of its own has left, if there was memory for it
+abbrev pub left_boxed : {T : Type 0} → (T → Option (List ℕ)) → Option (Box T)
+    → Option (List ℕ)
+left_boxed {T} left None = None
+left_boxed {T} left (Some reader) = left reader.value
 
 -- an attempt at reading is one at the stream or the file that it is, of which std says this
 abbrev pub reads_stream : {S F : Type 0} → (S → Option (List ℕ)) → (F → Option (List ℕ))

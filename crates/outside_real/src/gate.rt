@@ -68,7 +68,7 @@ fn try_accept<T: AcceptAttempt>(gate: &mut T) -> Arrival<T::Socket>
 
 // Whether an error says that no node has connected: it would have had to wait, a signal interrupted
 // it, or the node that had connected has gone.
-fn is_no_arrival(error: &io::Error) -> bool
+pub(crate) fn is_no_arrival(error: &io::Error) -> bool
     ensures { IsTrue result ↔ IsNoArrival error.now }
 {
     let kind = error.kind();

@@ -2,10 +2,12 @@
 //! the system. It tells nothing of what they carry; each object counts its faults.
 #![tactic(auto)]
 
+mod boxed_reader;
 mod clock;
 mod gate;
 mod link;
 mod listener;
+mod named;
 mod notices;
 mod real_outside;
 mod sink;
@@ -15,10 +17,12 @@ mod stream;
 mod system_clock;
 mod tcp;
 
+pub use boxed_reader::BoxedReader;
 pub use clock::{ClockAttempt, RealClock};
 pub use gate::AcceptAttempt;
 pub use link::RealLink;
 pub use listener::RealListener;
+pub use named::NamedStream;
 pub use notices::Notices;
 pub use real_outside::RealOutside;
 pub use sink::WriteSink;

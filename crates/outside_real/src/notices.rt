@@ -36,7 +36,18 @@ impl<R: Eprint + Clock> Notices<R> {
     }
 }
 
-// Whether a short line can be written to standard error now (a pipe has room for 4,096 octets then).
+/// How many octets of a text from outside a notice has at most.
+const MOST_OCTETS: usize = 1000;
+
+/// The text, where it is short enough for a notice.
+pub(crate) fn short(text: &str) -> &str {
+    if text.len() > MOST_OCTETS {
+        return "a name that is too long";
+    }
+    text
+}
+
+// Whether a short line can be written to standard error now: a pipe has room for 4,096 octets then.
 fn has_room() -> bool {
     let mut errors = [pollfd {
         fd: STANDARD_ERROR,

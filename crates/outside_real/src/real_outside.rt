@@ -5,10 +5,12 @@ ghost use Rattle.outside_real.specs.Links.{listener_told, link_told};
 ghost use Rattle.outside_real.specs.Streams.{source_told, sink_told, outside_told};
 ghost use Rattle.outside_real.specs.Streams.{is_standard_stream, is_standard_name};
 
+use crate::boxed_reader::BoxedReader;
 use crate::clock::RealClock;
 use crate::link::RealLink;
 use crate::listener::RealListener;
-use crate::notices::Notices;
+use crate::named::{NamedStream, StreamName};
+use crate::notices::{Notices, short};
 use crate::sink::WriteSink;
 use crate::source::ReadSource;
 use crate::stream::Stream;
@@ -54,9 +56,9 @@ impl<'a, R> RealOutside<'a, R> {
 
 impl<'a, R: Files + Input + Print + Eprint + Net + time::Clock + Copy> Outside
     for RealOutside<'a, R> {
-    type In = ReadSource<Stream<R::Reader, R::File>>;
+    type In = ReadSource<NamedStream<BoxedReader<R::Reader>, R::File, R>>;
 
-    type Out = WriteSink<Stream<Printer<'a, R>, R::File>>;
+    type Out = WriteSink<NamedStream<Printer<'a, R>, R::File, R>>;
 
     type Link = RealLink<TcpSocket<R>>;
 
@@ -66,35 +68,38 @@ impl<'a, R: Files + Input + Print + Eprint + Net + time::Clock + Copy> Outside
 
     ghost told = { outside_told };
 
-    fn open_in(&mut self, name: &str) -> Option<ReadSource<Stream<R::Reader, R::File>>>
+    fn open_in(
+        &mut self,
+        name: &str,
+    ) -> Option<ReadSource<NamedStream<BoxedReader<R::Reader>, R::File, R>>>
         ensures opens { OpensIn (outside_told self.old) (outside_told self.new) name.now
             (option_map (λ source. source_told source.1) result) }
         ensures stream { IfSome result (λ source. is_standard_stream source.0
             ≡ is_standard_name name.now) }
         ensures standard { IsTrue (is_standard_name name.now) → IsSome result }
     {
-        let stream = input(self.runtime, name);
+        let stream = input(self.runtime, self.alloc, name);
         self.faults = count_fault(self.faults, stream.is_none());
         Some(ReadSource::new(stream?))
     }
 
-    fn close_in(&mut self, source: ReadSource<Stream<R::Reader, R::File>>) {
+    fn close_in(&mut self, source: ReadSource<NamedStream<BoxedReader<R::Reader>, R::File, R>>) {
         self.faults = count_fault(self.faults, source.faults() > 0);
     }
 
-    fn open_out(&mut self, name: &str) -> Option<WriteSink<Stream<Printer<'a, R>, R::File>>>
+    fn open_out(&mut self, name: &str) -> Option<WriteSink<NamedStream<Printer<'a, R>, R::File, R>>>
         ensures opens { OpensOut (outside_told self.old) (outside_told self.new) name.now
             (option_map (λ sink. sink_told sink.1) result) }
         ensures stream { IfSome result (λ sink. is_standard_stream sink.0
             ≡ is_standard_name name.now) }
         ensures standard { IsTrue (is_standard_name name.now) → IsSome result }
     {
-        let stream = output(self.runtime, name);
+        let stream = output(self.runtime, self.alloc, name);
         self.faults = count_fault(self.faults, stream.is_none());
         Some(WriteSink::new(stream?))
     }
 
-    fn close_out(&mut self, sink: WriteSink<Stream<Printer<'a, R>, R::File>>) {
+    fn close_out(&mut self, sink: WriteSink<NamedStream<Printer<'a, R>, R::File, R>>) {
         self.faults = count_fault(self.faults, sink.faults() > 0);
     }
 
@@ -102,13 +107,15 @@ impl<'a, R: Files + Input + Print + Eprint + Net + time::Clock + Copy> Outside
         ensures listens { Listens (outside_told self.old) (outside_told self.new) address.now
             (option_map (λ listener. listener_told listener.1) result) }
     {
-        let listener = TcpGate::listen(*self.runtime, self.alloc, address).ok();
-        self.faults = count_fault(self.faults, listener.is_none());
+        let outcome = TcpGate::listen(*self.runtime, self.alloc, address);
         let notices = Notices::new(*self.runtime);
-        match &listener {
-            Some(_) => notices.tell(format_args!("listening at {address}")),
-            None => notices.tell(format_args!("can't listen at {address}")),
+        let shown = short(address);
+        match &outcome {
+            Ok(_) => notices.tell(format_args!("listening at {shown}")),
+            Err(error) => notices.tell(format_args!("can't listen at {shown}: {error}")),
         }
+        let listener = outcome.ok();
+        self.faults = count_fault(self.faults, listener.is_none());
         listener
     }
 
@@ -125,7 +132,12 @@ impl<'a, R: Files + Input + Print + Eprint + Net + time::Clock + Copy> Outside
         ensures connects { Connects (outside_told self.old) (outside_told self.new) address.now
             (option_map (λ link. link_told link.is_closed link.faults) result) }
     {
-        let link = TcpSocket::connect(*self.runtime, self.alloc, address).ok();
+        let outcome = TcpSocket::connect(*self.runtime, self.alloc, address);
+        if let Err(error) = &outcome {
+            let shown = short(address);
+            Notices::new(*self.runtime).tell(format_args!("can't connect to {shown}: {error}"));
+        }
+        let link = outcome.ok();
         self.faults = count_fault(self.faults, link.is_none());
         link
     }
@@ -148,32 +160,58 @@ impl<'a, R: Files + Input + Print + Eprint + Net + time::Clock + Copy> Outside
 }
 
 // What is read under a name: None only where the file of that name can't be opened.
-fn input<R: Files + Input>(runtime: &R, name: &str) -> Option<Stream<R::Reader, R::File>>
+fn input<R: Files + Input + Eprint + time::Clock + Copy>(
+    runtime: &R,
+    alloc: Global,
+    name: &str,
+) -> Option<NamedStream<BoxedReader<R::Reader>, R::File, R>>
     ensures stream { IfSome result (λ stream. is_standard_stream stream
         ≡ is_standard_name name.now) }
     ensures standard { IsTrue (is_standard_name name.now) → IsSome result }
 {
     if is_standard(name) {
-        return Some(Stream::Standard(runtime.reader()));
+        let reader = BoxedReader::new(alloc, runtime.reader());
+        let stream = Stream::Standard(reader);
+        return Some(NamedStream::new(*runtime, StreamName::Input, stream));
     }
-    let file = fs::open(runtime, name).ok()?;
-    Some(Stream::File(file))
+    let file = opened(*runtime, name, fs::open(runtime, name))?;
+    let named = StreamName::file(alloc, name);
+    Some(NamedStream::new(*runtime, named, Stream::File(file)))
 }
 
 // What is written under a name: None only where the file of that name can't be made.
-fn output<'a, R: Files + Print>(
+fn output<'a, R: Files + Print + Eprint + time::Clock + Copy>(
     runtime: &'a R,
+    alloc: Global,
     name: &str,
-) -> Option<Stream<Printer<'a, R>, R::File>>
+) -> Option<NamedStream<Printer<'a, R>, R::File, R>>
     ensures stream { IfSome result (λ stream. is_standard_stream stream
         ≡ is_standard_name name.now) }
     ensures standard { IsTrue (is_standard_name name.now) → IsSome result }
 {
     if is_standard(name) {
-        return Some(Stream::Standard(io::writer(runtime)));
+        let stream = Stream::Standard(io::writer(runtime));
+        return Some(NamedStream::new(*runtime, StreamName::Output, stream));
     }
-    let file = fs::create(runtime, name).ok()?;
-    Some(Stream::File(file))
+    let file = opened(*runtime, name, fs::create(runtime, name))?;
+    let named = StreamName::file(alloc, name);
+    Some(NamedStream::new(*runtime, named, Stream::File(file)))
+}
+
+// The file that was opened. Where it wasn't, an operator is told why.
+fn opened<R: Eprint + time::Clock + Copy, F>(
+    runtime: R,
+    name: &str,
+    outcome: io::Result<F>,
+) -> Option<F> {
+    match outcome {
+        Ok(file) => Some(file),
+        Err(error) => {
+            let shown = short(name);
+            Notices::new(runtime).tell(format_args!("can't open {shown}: {error}"));
+            None
+        }
+    }
 }
 
 // Whether a name is that of a standard stream.

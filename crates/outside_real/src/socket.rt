@@ -163,7 +163,7 @@ fn failed_as(error: &io::Error) -> Attempt
 }
 
 // Whether an attempt would have had to wait.
-fn would_wait(error: &io::Error) -> bool
+pub(crate) fn would_wait(error: &io::Error) -> bool
     ensures { IsTrue result ↔ (error_kind error.now ≡ ErrorKind.WouldBlock) }
 {
     error.kind() == ErrorKind::WouldBlock

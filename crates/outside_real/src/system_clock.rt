@@ -2,6 +2,8 @@
 ghost use Rattle.std.specs.Prelude.{⊤};
 
 use crate::clock::ClockAttempt;
+use crate::notices::Notices;
+use std::io::Eprint;
 use std::thread;
 use std::time::{self, Duration, SystemTime, UNIX_EPOCH};
 
@@ -26,7 +28,7 @@ impl<R> SystemClock<R> {
     }
 }
 
-impl<R: time::Clock> ClockAttempt for SystemClock<R> {
+impl<R: time::Clock + Eprint + Copy> ClockAttempt for SystemClock<R> {
     // Nothing is known of the time.
     ghost attempt = { λ before outcome after. ⊤ };
 
@@ -35,8 +37,17 @@ impl<R: time::Clock> ClockAttempt for SystemClock<R> {
             thread::sleep(&self.runtime, Duration::from_millis(PACE));
         }
         self.was_read = true;
-        let now = SystemTime::now(&self.runtime).ok()?;
-        let since = now.duration_since(UNIX_EPOCH).ok()?;
-        u64::try_from(since.as_millis()).ok()
+        let reading = reading_of(&self.runtime);
+        if reading.is_none() {
+            Notices::new(self.runtime).tell("the clock can't be read");
+        }
+        reading
     }
+}
+
+// What the clock shows, in milliseconds since 1970.
+fn reading_of<R: time::Clock>(runtime: &R) -> Option<u64> {
+    let now = SystemTime::now(runtime).ok()?;
+    let since = now.duration_since(UNIX_EPOCH).ok()?;
+    u64::try_from(since.as_millis()).ok()
 }

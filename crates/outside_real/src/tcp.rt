@@ -3,11 +3,12 @@ ghost use Rattle.std.specs.Prelude.{⊤, ◌≡◌, IfOk};
 ghost use Rattle.std.specs.Io.{ReadsAtMost, WritesAtMost};
 ghost use Rattle.outside_real.specs.RealLinks.{RealLinkState, new_real_link};
 
-use crate::gate::AcceptAttempt;
+use crate::gate::{AcceptAttempt, is_no_arrival};
 use crate::link::RealLink;
 use crate::listener::RealListener;
 use crate::notices::Notices;
-use crate::socket::SocketAttempt;
+use crate::socket::{SocketAttempt, would_wait};
+use crate::stream::is_interrupted;
 use libc::net::{SO_KEEPALIVE, SOL_SOCKET, setsockopt};
 use mio::event::Source;
 use mio::net::{TcpListener, TcpStream};
@@ -24,6 +25,11 @@ const WAIT: u64 = 200;
 
 /// How long a connection may take to come about, in milliseconds.
 const CONNECT_WAIT: u64 = 5000;
+
+/// How many octets at most are read away of a connection that is closed: pieces, and a piece.
+const MOST_PIECES: u32 = 512;
+
+const PIECE: usize = 16_384;
 
 // Waits until one source is ready.
 #[derive(Drop)]
@@ -53,21 +59,42 @@ impl Waiter {
     }
 }
 
-/// A connection. It waits 200 milliseconds at most.
+/// A connection whose descriptor is open.
 #[derive(Drop)]
-pub struct TcpSocket<R> {
+struct OpenStream {
     stream: TcpStream,
     waiter: Waiter,
-    runtime: R,
-    /// When and from where it was accepted; none where it wasn't accepted but made.
-    accepted: Option<Accepted>,
 }
 
-/// When a connection was accepted, and from where.
-#[derive(Clone, Copy)]
-struct Accepted {
-    at: Instant,
-    from: SocketAddr,
+impl OpenStream {
+    // Ends both directions and gives the descriptor back. What was written before still goes out:
+    // octets that stand unread are read away before, since a connection that is closed with some is
+    // reset, by which the other node may lose what was last sent.
+    fn close(mut self) {
+        // A connection that the other node has ended can't be shut down.
+        let _result = self.stream.shutdown(Shutdown::Write);
+        let mut unread = [0u8; PIECE];
+        for _piece in 0..MOST_PIECES {
+            match self.stream.read(&mut unread) {
+                Ok(count) if count > 0 => {}
+                _ => return,
+            }
+        }
+    }
+}
+
+/// A connection. It waits 200 milliseconds at most. Once it is shut its descriptor is given back: a
+/// read is then at the end, and a write fails.
+#[derive(Drop)]
+pub struct TcpSocket<R> {
+    open: Option<OpenStream>,
+    runtime: R,
+    /// The other node's.
+    address: SocketAddr,
+    /// When it was accepted; none where it wasn't accepted but made.
+    accepted: Option<Instant>,
+    /// Whether it was ever read.
+    was_asked: bool,
 }
 
 impl<R: Net + Clock + Eprint + Copy> TcpSocket<R> {
@@ -77,9 +104,10 @@ impl<R: Net + Clock + Eprint + Copy> TcpSocket<R> {
     pub fn connect(runtime: R, alloc: Global, address: &str) -> io::Result<RealLink<TcpSocket<R>>>
         ensures { IfOk result (λ link. link ≡ new_real_link link.socket) }
     {
-        let mut stream = TcpStream::connect(&runtime, socket_address(address)?)?;
+        let address = socket_address(address)?;
+        let mut stream = TcpStream::connect(&runtime, address)?;
         wait_for_node(&runtime, alloc, &mut stream)?;
-        let socket = TcpSocket::new(runtime, alloc, stream, None)?;
+        let socket = TcpSocket::new(runtime, alloc, stream, address, None)?;
         Ok(RealLink::new(socket))
     }
 
@@ -88,16 +116,18 @@ impl<R: Net + Clock + Eprint + Copy> TcpSocket<R> {
         runtime: R,
         alloc: Global,
         mut stream: TcpStream,
-        accepted: Option<Accepted>,
+        address: SocketAddr,
+        accepted: Option<Instant>,
     ) -> io::Result<TcpSocket<R>> {
         stream.set_nodelay(true)?;
         keep_alive(&stream)?;
         let waiter = Waiter::new(&runtime, alloc, &mut stream, Interest::READABLE)?;
         Ok(TcpSocket {
-            stream,
-            waiter,
+            open: Some(OpenStream { stream, waiter }),
             runtime,
+            address,
             accepted,
+            was_asked: false,
         })
     }
 }
@@ -135,32 +165,77 @@ impl<R: Clock + Eprint + Copy> SocketAttempt for TcpSocket<R> {
     ghost shuts = { λ before after. ⊤ };
 
     fn attempt_read(&mut self, buf: &mut [u8]) -> io::Result<usize> {
-        self.stream.read(buf)
+        self.was_asked = true;
+        let outcome = match &mut self.open {
+            Some(open) => open.stream.read(buf),
+            None => Ok(0),
+        };
+        if let Err(error) = &outcome {
+            tell_fault(self.runtime, "receiving from", self.address, error);
+        }
+        outcome
     }
 
     fn attempt_write(&mut self, piece: &[u8]) -> io::Result<usize> {
-        self.stream.write(piece)
+        let outcome = match &mut self.open {
+            Some(open) => open.stream.write(piece),
+            None => Err(io::Error::from(io::ErrorKind::NotConnected)),
+        };
+        if let Err(error) = &outcome {
+            tell_fault(self.runtime, "sending to", self.address, error);
+        }
+        outcome
     }
 
     fn wait(&mut self) -> bool {
-        self.waiter.wait(WAIT)
+        match &mut self.open {
+            Some(open) => open.waiter.wait(WAIT),
+            None => false,
+        }
     }
 
     fn age(&self) -> Option<u64> {
         let Some(accepted) = self.accepted else {
             return Some(0);
         };
-        let age = accepted.at.elapsed(&self.runtime).ok()?;
+        let Ok(age) = accepted.elapsed(&self.runtime) else {
+            Notices::new(self.runtime).tell("the clock can't be read");
+            return None;
+        };
         u64::try_from(age.as_millis()).ok()
     }
 
     fn shut(&mut self) {
-        // A connection that the other node has ended can't be shut down.
-        let _result = self.stream.shutdown(Shutdown::Both);
-        if let Some(accepted) = self.accepted {
-            let from = accepted.from;
-            Notices::new(self.runtime).tell(format_args!("closed the connection from {from}"));
+        let Some(open) = self.open.take() else {
+            return;
+        };
+        open.close();
+        if self.accepted.is_some() {
+            tell_end(self.runtime, self.address, self.was_asked);
         }
+    }
+}
+
+// Tells that a call at a connection failed, and not that it would have had to wait or that a signal
+// interrupted it.
+fn tell_fault<R: Clock + Eprint + Copy>(
+    runtime: R,
+    what: &str,
+    address: SocketAddr,
+    error: &io::Error,
+) {
+    if !would_wait(error) && !is_interrupted(error) {
+        Notices::new(runtime).tell(format_args!("{what} {address} failed: {error}"));
+    }
+}
+
+// Tells that a connection which was accepted was closed. One that was never read was turned away.
+fn tell_end<R: Clock + Eprint + Copy>(runtime: R, address: SocketAddr, was_asked: bool) {
+    let notices = Notices::new(runtime);
+    if was_asked {
+        notices.tell(format_args!("closed the connection from {address}"));
+    } else {
+        notices.tell(format_args!("turned the connection from {address} away"));
     }
 }
 
@@ -208,6 +283,17 @@ impl<R: Net + Clock + Eprint + Copy> TcpGate<R> {
     }
 }
 
+// Accepts one connection.
+fn accept_one<R: Net + Clock + Eprint + Copy>(
+    runtime: R,
+    alloc: Global,
+    listener: &TcpListener,
+) -> io::Result<TcpSocket<R>> {
+    let (stream, from) = listener.accept()?;
+    let now = Instant::now(&runtime)?;
+    TcpSocket::new(runtime, alloc, stream, from, Some(now))
+}
+
 impl<R: Net + Clock + Eprint + Copy> AcceptAttempt for TcpGate<R> {
     type Socket = TcpSocket<R>;
 
@@ -217,12 +303,20 @@ impl<R: Net + Clock + Eprint + Copy> AcceptAttempt for TcpGate<R> {
     ghost waits = { λ before could after. ⊤ };
 
     fn attempt_accept(&mut self) -> io::Result<TcpSocket<R>> {
-        let (stream, from) = self.listener.accept()?;
-        let at = Instant::now(&self.runtime)?;
-        let accepted = Accepted { at, from };
-        let socket = TcpSocket::new(self.runtime, self.alloc, stream, Some(accepted))?;
-        Notices::new(self.runtime).tell(format_args!("accepted a connection from {from}"));
-        Ok(socket)
+        let outcome = accept_one(self.runtime, self.alloc, &self.listener);
+        let notices = Notices::new(self.runtime);
+        match &outcome {
+            Ok(socket) => {
+                let from = socket.address;
+                notices.tell(format_args!("accepted a connection from {from}"));
+            }
+            Err(error) => {
+                if !is_no_arrival(error) {
+                    notices.tell(format_args!("a connection can't be accepted: {error}"));
+                }
+            }
+        }
+        outcome
     }
 
     fn wait(&mut self) -> bool {
