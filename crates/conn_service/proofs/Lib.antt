@@ -9,3 +9,4 @@ pub mod Refused
 pub mod Memory
 pub mod TooLong
 pub mod Attended
+pub mod EndedClosed

@@ -1,13 +1,17 @@
-//! Isolation of peers: what the peer of a link is sent hangs on nothing that other peers are shown.
+//! Isolation of peers: what the peer of a link is sent hangs on nothing that other peers are shown;
+//! and what an ended connection leaves.
 ghost use Rattle.std.specs.Prelude.{◌≡◌, ℕ, List, Option, Some, None};
 ghost use Rattle.bilateral.specs.Rows.{CentreRows};
 ghost use Rattle.sbo_device.specs.declared.key.Key.{Key};
-ghost use Rattle.tase_views.specs.History.{Past};
+ghost use Rattle.tase_views.specs.Setup.{Setup};
+ghost use Rattle.tase_views.specs.History.{Past, association_in};
 ghost use Rattle.tase_views.specs.OwnTables.{own_tables};
 ghost use Rattle.tase_views.specs.View.{view_of};
-ghost use Rattle.tase_map.specs.Inputs.{Item};
+ghost use Rattle.tase_map.specs.Inputs.{Item, IsLinkInput};
 ghost use Rattle.tase_map.specs.Asks.{is_peers};
 ghost use Rattle.tase_map.specs.Linked.{opened_in, link_octets};
+ghost use Rattle.tase_conn.specs.declared.stage.ConnEnd.{ConnEnd};
+ghost use Rattle.conn_service.specs.Sends.{Sends};
 
 /// Two worlds. Two centres with two histories, two links that give the same at any two seats: where
 /// the associations that these have opened last are of peers with the same own tables and the same
@@ -26,4 +30,11 @@ pub fn two_worlds_are_sent_alike()
         → opened_in past who ≡ None → opened_in other_past seat ≡ None
         → ((title : Option (List ℕ)) → is_peers here title ≡ is_peers there title)
         → link_octets here past who items ≡ link_octets there other_past seat items }
+{}
+
+/// A connection that has ended, however it did, leaves no association of its seat open.
+pub fn ended_connections_are_closed()
+    ensures { (setup : Setup) (past : Past) (who : ℕ) (items : List Item) (end : ConnEnd)
+        (octets : List ℕ) → IsLinkInput items → Sends setup past who items (Some end) octets
+        → association_in past who ≡ None }
 {}

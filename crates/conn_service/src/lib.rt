@@ -5,4 +5,4 @@ mod attending;
 mod laws;
 
 pub use attending::attend;
-pub use laws::two_worlds_are_sent_alike;
+pub use laws::{ended_connections_are_closed, two_worlds_are_sent_alike};

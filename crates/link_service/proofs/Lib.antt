@@ -9,4 +9,5 @@ pub mod Overflown
 pub mod Begun
 pub mod TurnsOn
 pub mod Stopped
+mod LeftClosed
 mod WorkedTurns

@@ -1,8 +1,8 @@
 -- Events that an input asks come in turn: by what has come before, none is open yet, one is open, or
 -- it is closed.
 use Rattle.std.proofs.Common.{◌≡◌, ℕ, ◌<◌, Bool, true, false, List, [], ◌∷◌, ◌++◌, Option, Some}
-use Rattle.std.proofs.Common.{None, refl, sym, ap, subst, ◌∙◌, length}
-use Rattle.std.specs.Prelude.{is_some, if◌then◌else◌, ◌||◌, ◌&&◌, not, bytes_eq}
+use Rattle.std.proofs.Common.{None, refl, sym, ap, subst, ◌∙◌, length, inl, inr}
+use Rattle.std.specs.Prelude.{is_some, if◌then◌else◌, ◌||◌, ◌&&◌, ◌⊎◌, not, bytes_eq}
 use Rattle.std.specs.Option.{option_eq}
 use Rattle.std.specs.List.{list_any, position}
 use Rattle.std.proofs.lemmas.Bool.{false≢true}
@@ -16,7 +16,8 @@ use Rattle.tase_views.specs.declared.event.EventKind.TheVariants as events
 use Rattle.tase_map.specs.Inputs.{Item, IsLinkInput}
 use Rattle.tase_map.specs.Turns.{Turn, offers, offers_badly, asks, concludes, releases, aborts}
 use Rattle.tase_map.specs.Turns.{breaks, ends, pauses, turns_of}
-use Rattle.tase_map.specs.Asks.{begins, finishes, is_open_behind, up_to_last, event_if, open_of}
+use Rattle.tase_map.specs.Asks.{begins, finishes, is_open_behind, is_last, up_to_last, event_if}
+use Rattle.tase_map.specs.Asks.{open_of}
 use Rattle.tase_map.specs.Asks.{asks_at, asks_behind, asks_of, AreServed, AreInTurn}
 use Rattle.tase_map.proofs.TurnOrder.{offered, concluded, AllFollow, turns_follow}
 
@@ -223,3 +224,131 @@ pub asked_in_turn : (rows : CentreRows) (items : List Item) → IsLinkInput item
 asked_in_turn rows items i =
     asks_early rows [] (turns_of items)
     (record { unbegun = refl; unfinished = refl; no_offer = refl }) (turns_follow items i)
+
+-- ---- closed, where the input has ended
+
+-- the last of these is a close
+pub record ComesToClose (asked : List EventKind) : Type 0 where
+  pub front : List EventKind
+  pub are : asked ≡ front ++ events.Close ∷ []
+
+-- none, or the last of them is a close
+abbrev pub IsShutBy : List EventKind → Type 0
+IsShutBy asked = (asked ≡ []) ⊎ ComesToClose asked
+
+close_behind : (event : EventKind) (asked : List EventKind) → ComesToClose asked
+    → ComesToClose (event ∷ asked)
+close_behind event asked c =
+    record { front = event ∷ c.front; are = ap (λ (es : List EventKind). event ∷ es) c.are }
+
+event_closes : (b : Bool) (event : EventKind) (asked : List EventKind) → b ≡ true
+    → ComesToClose (event ∷ asked) → ComesToClose (event_if b event ++ asked)
+event_closes true event asked e c = c
+event_closes false event asked e c = absurd (false≢true e)
+
+close_closes : (b : Bool) (asked : List EventKind) → b ≡ true → asked ≡ []
+    → ComesToClose (event_if b events.Close ++ asked)
+close_closes b asked e none =
+    event_closes b events.Close asked e
+    (record { front = []; are = ap (λ (es : List EventKind). events.Close ∷ es) none })
+
+last_closes : (rows : CentreRows) (before : List Turn) → IsServed rows before
+    → ComesToClose (event_if (is_open_behind rows before) events.Close ++ [])
+last_closes rows before s =
+    close_closes (is_open_behind rows before) [] (served_open rows before s) refl
+
+-- an association that was opened comes to its close, where something comes behind which nothing
+-- follows
+served_closes : (rows : CentreRows) (before turns : List Turn) → IsServed rows before
+    → AllFollow before turns → list_any (is_last rows) turns ≡ true
+    → ComesToClose (asks_behind rows before (up_to_last rows turns))
+served_closes rows before [] s a l = absurd (false≢true l)
+served_closes rows before (offers title ∷ turns) s a l = absurd (false≢true (sym a.0 ∙ s.offer))
+served_closes rows before (offers_badly ∷ turns) s a l = absurd (false≢true (sym a.0 ∙ s.offer))
+served_closes rows before (asks invoke call ∷ turns) s a l =
+    close_behind (events.Request call)
+    (asks_behind rows (before ++ asks invoke call ∷ []) (up_to_last rows turns))
+    (served_closes rows (before ++ asks invoke call ∷ []) turns
+    (served_more rows before (asks invoke call) refl s) a.1 l)
+served_closes rows before (concludes ∷ turns) s a l =
+    close_closes (is_open_behind rows before)
+    (asks_behind rows (before ++ concludes ∷ []) (up_to_last rows turns))
+    (served_open rows before s)
+    (asks_none rows (before ++ concludes ∷ []) turns (record {
+      finished = more_one finishes before concludes refl;
+      offer = more_some offered before concludes s.offer;
+      conclude = more_one concluded before concludes refl;
+    }) a.1)
+served_closes rows before (releases ∷ turns) s a l = last_closes rows before s
+served_closes rows before (aborts ∷ turns) s a l = last_closes rows before s
+served_closes rows before (breaks ∷ turns) s a l = last_closes rows before s
+served_closes rows before (ends ∷ turns) s a l = last_closes rows before s
+served_closes rows before (pauses ∷ turns) s a l =
+    event_closes (is_open_behind rows before) events.Take
+    (asks_behind rows (before ++ pauses ∷ []) (up_to_last rows turns))
+    (served_open rows before s)
+    (close_behind events.Take (asks_behind rows (before ++ pauses ∷ []) (up_to_last rows turns))
+    (served_closes rows (before ++ pauses ∷ []) turns
+    (served_more rows before pauses refl s) a.1 l))
+
+none_asked : (rows : CentreRows) (before : List Turn) (event : EventKind) → IsEarly rows before
+    → event_if (is_open_behind rows before) event ≡ []
+none_asked rows before event y =
+    none_if (is_open_behind rows before) event (rw y.unbegun refl)
+
+none_shut : (rows : CentreRows) (before : List Turn) → IsEarly rows before
+    → IsShutBy (event_if (is_open_behind rows before) events.Close ++ [])
+none_shut rows before y =
+    inl (ap (λ (es : List EventKind). es ++ []) (none_asked rows before events.Close y))
+
+-- by the peer of an offer
+offer_shuts : (rows : CentreRows) (found : Option ℕ) (before : List Turn)
+    (title : Option (List ℕ)) (turns : List Turn) → place_of_title rows title ≡ found
+    → IsEarly rows before → AllFollow (before ++ offers title ∷ []) turns
+    → (not (is_some found) || list_any (is_last rows) turns) ≡ true
+    → IsShutBy (open_of found ++ asks_behind rows (before ++ offers title ∷ [])
+    (if not (is_some found) then [] else up_to_last rows turns))
+offer_shuts rows None before title turns e y a l = inl refl
+offer_shuts rows (Some peer) before title turns e y a l =
+    inr (close_behind (events.Open peer)
+    (asks_behind rows (before ++ offers title ∷ []) (up_to_last rows turns))
+    (served_closes rows (before ++ offers title ∷ []) turns (record {
+      begun = more_one (begins rows) before (offers title) (ap (λ (f : Option ℕ). is_some f) e);
+      unfinished = more_none finishes before (offers title) y.unfinished refl;
+      offer = more_one offered before (offers title) refl;
+    }) a l))
+
+early_shuts : (rows : CentreRows) (before turns : List Turn) → IsEarly rows before
+    → AllFollow before turns → list_any (is_last rows) turns ≡ true
+    → IsShutBy (asks_behind rows before (up_to_last rows turns))
+early_shuts rows before [] y a l = absurd (false≢true l)
+early_shuts rows before (offers title ∷ turns) y a l =
+    subst (λ (es : List EventKind). IsShutBy es)
+    (sym (cut_behind rows (not (is_some (place_of_title rows title))) before (offers title)
+    (up_to_last rows turns)))
+    (offer_shuts rows (place_of_title rows title) before title turns refl y a.1 l)
+early_shuts rows before (offers_badly ∷ turns) y a l = inl refl
+early_shuts rows before (asks invoke call ∷ turns) y a l =
+    absurd (false≢true (sym y.no_offer ∙ a.0.offer))
+early_shuts rows before (concludes ∷ turns) y a l =
+    absurd (false≢true (sym y.no_offer ∙ a.0.offer))
+early_shuts rows before (releases ∷ turns) y a l = none_shut rows before y
+early_shuts rows before (aborts ∷ turns) y a l = none_shut rows before y
+early_shuts rows before (breaks ∷ turns) y a l = none_shut rows before y
+early_shuts rows before (ends ∷ turns) y a l = none_shut rows before y
+early_shuts rows before (pauses ∷ turns) y a l =
+    subst (λ (es : List EventKind). IsShutBy (es
+    ++ asks_behind rows (before ++ pauses ∷ []) (up_to_last rows turns)))
+    (sym (none_asked rows before events.Take y))
+    (early_shuts rows (before ++ pauses ∷ []) turns (record {
+      unbegun = more_none (begins rows) before pauses y.unbegun refl;
+      unfinished = more_none finishes before pauses y.unfinished refl;
+      no_offer = more_none offered before pauses y.no_offer refl;
+    }) a.1 l)
+
+-- what an input asks that has ended, or behind which nothing follows
+pub asked_shut : (rows : CentreRows) (items : List Item) → IsLinkInput items
+    → list_any (is_last rows) (turns_of items) ≡ true → IsShutBy (asks_of rows items)
+asked_shut rows items i l =
+    early_shuts rows [] (turns_of items)
+    (record { unbegun = refl; unfinished = refl; no_offer = refl }) (turns_follow items i) l

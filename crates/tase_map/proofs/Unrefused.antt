@@ -1,8 +1,9 @@
 -- Events of a seat that come in turn have no refusal by the seat or by a name.
 use Rattle.std.proofs.Common.{◌≡◌, ◌==◌, ℕ, Bool, true, false, List, [], ◌∷◌, ◌++◌, Option}
-use Rattle.std.proofs.Common.{Some, None, refl, sym, ap, subst, ◌∙◌, length, reverse}
+use Rattle.std.proofs.Common.{Some, None, refl, sym, ap, subst, ◌∙◌, length, reverse, ⊎_elim}
 use Rattle.std.specs.Prelude.{if◌then◌else◌, is_some}
-use Rattle.std.specs.List.{cons_option}
+use Rattle.std.specs.List.{cons_option, list_any}
+use Rattle.std.proofs.lemmas.Bool.{false≢true}
 use Rattle.std.proofs.lemmas.Bool.{lt-ltb}
 use Rattle.std.proofs.lemmas.List.{reverse-append, reverse-reverse}
 use Rattle.sbo_device.specs.declared.key.Key.{Key}
@@ -13,8 +14,11 @@ use Rattle.tase_views.specs.declared.event.EventKind.TheVariants.{Update, Table,
 use Rattle.tase_views.specs.declared.event.Entry.{Entry}
 use Rattle.tase_views.specs.History.{Past, association_after, association_in}
 use Rattle.tase_views.specs.Outcomes.{seat_refusal, name_refusal}
-use Rattle.tase_map.specs.Asks.{AreServed, AreInTurn}
+use Rattle.tase_map.specs.Inputs.{Item, IsLinkInput}
+use Rattle.tase_map.specs.Turns.{turns_of}
+use Rattle.tase_map.specs.Asks.{AreServed, AreInTurn, is_last, asks_of}
 use Rattle.tase_map.specs.Sent.{events_by}
+use Rattle.tase_map.proofs.InTurn.{ComesToClose, IsShutBy, asked_shut}
 
 -- ---- whether a seat has an association, by its events, the newest first
 
@@ -217,3 +221,30 @@ unrefused rows past who event rest t =
     by_events rows (association_in past who) (reverse (events_by who past)) event rest
     (seat_open past who ∙ ap (λ (l : List EventKind). last_open l)
     (sym (reverse-reverse (events_by who past)))) t
+
+-- ---- closed, where the input has ended
+
+-- no event, or a close behind the others: none is open
+shut_open : (asked : List EventKind) → IsShutBy asked → last_open (reverse asked) ≡ false
+unfolding last_open
+shut_open asked s = ⊎_elim
+    (λ (none : asked ≡ []). ap (λ (es : List EventKind). last_open (reverse es)) none)
+    (λ (c : ComesToClose asked).
+    ap (λ (es : List EventKind). last_open (reverse es)) c.are
+    ∙ ap (λ (es : List EventKind). last_open es) (reverse-append c.front (Close ∷ []))) s
+
+no_key : (found : Option Key) → is_some found ≡ false → found ≡ None
+no_key None e = refl
+no_key (Some key) e = absurd (false≢true (sym e))
+
+-- a seat whose events are all that an input asks has no association, where something has come behind
+-- which nothing follows
+pub shut_seat : (rows : CentreRows) (past : Past) (who : ℕ) (items : List Item)
+    → IsLinkInput items → list_any (is_last rows) (turns_of items) ≡ true
+    → reverse (events_by who past) ≡ asks_of rows items → association_in past who ≡ None
+shut_seat rows past who items i l e =
+    no_key (association_in past who)
+    (seat_open past who
+    ∙ ap (λ (es : List EventKind). last_open es)
+    (sym (reverse-reverse (events_by who past)) ∙ ap reverse e)
+    ∙ shut_open (asks_of rows items) (asked_shut rows items i l))
