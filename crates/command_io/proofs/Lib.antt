@@ -1,5 +1,6 @@
 pub mod Leaving
 pub mod Exchanging
+pub mod Entries
 pub mod Reading
 pub mod Running
 pub mod Printing

@@ -21,21 +21,22 @@ use Rattle.command_io.specs.Inputs.{is_lost}
 use Rattle.command_io.specs.Runs.{output_name, EndsUnread, IsFileEnd, status_behind}
 use Rattle.command_io.specs.Plans.{IsValue, ReadsValue}
 use Rattle.command_io.proofs.Leaving.{Rises-after, Rises-before, Rises-grows, Grows-same}
+use Rattle.command_io.proofs.Entries.{failed_faulty, IsKept, kept_all, kept_used}
 use Rattle.command_words.specs.Words.{ServeTask}
 use Rattle.node_files.specs.Tables.{tables_in}
 use Rattle.server_run.specs.declared.seats.Seats.{Seats}
 use Rattle.server_main.specs.declared.serve_end.ServeEnd.{ServeEnd}
 use Rattle.server_main.specs.declared.serve_end.ServeEnd.TheVariants as ends
 use Rattle.server_main.specs.Serving.{ServerTold, IsServed, IsUnstarted}
-use Rattle.serve_command.specs.Courses.{ServerRun, Course, unread, unshared, unopened, served}
+use Rattle.serve_command.specs.Courses.{ServerRun, ServeCourse, unread, unshared, unopened, served}
 use Rattle.serve_command.specs.Courses.{tables_read, work_of}
-use Rattle.serve_command.specs.Serving.{TellsEnd, KeepsNode, ClosesServer, RunsOpened, GoesOn}
-use Rattle.serve_command.specs.Serving.{GoesBehind, IsServeStatus, HasFaultyName}
-use Rattle.serve_command.specs.Serving.{IsJobRefused, IsNodeKept, IsAllDone, ServesCommand}
+use Rattle.serve_command.specs.Serving.{TellsEnd, KeepsNode, ClosesServer, RunsOpened}
+use Rattle.serve_command.specs.Serving.{ServesBehindTables, TakesCourse, IsServeStatus, HasFaultyName}
+use Rattle.serve_command.specs.Serving.{IsJobRefused, IsNodeKept, LacksMemoryAt, IsServedToEnd}
+use Rattle.serve_command.specs.Serving.{ServesCommand}
 use Rattle.serve_command.proofs.Counted.{all-rises, all-same}
 use Rattle.serve_command.proofs.Ends.{ended_done, kept_outside, kept_done, closed_outside}
-use Rattle.serve_command.proofs.Ends.{closed_grows}
-use Rattle.serve_command.proofs.Entries.{failed_faulty, IsKept, kept_all, kept_used}
+use Rattle.serve_command.proofs.Ends.{closed_grows, kept_memory}
 use Rattle.serve_command.proofs.Entries.{faulty_between}
 use Rattle.serve_command.proofs.Reasons.{unopened_faulty, runs_reason}
 
@@ -91,9 +92,9 @@ runs_outside task m a run status runs same =
           (closed_grows m runs.closed (work_of run.after) run.end runs.ended runs.closes) risen)
     ]
 
-goes_outside : (task : ServeTask) (course : Course) (b m a : OutsideTold) (status : Status)
+goes_outside : (task : ServeTask) (course : ServeCourse) (b m a : OutsideTold) (status : Status)
     → ReadsValue tables_in task.tables TEXT_LIMIT (tables_read course) b m
-    → GoesOn task course m a status → status ≡ statuses.Outside
+    → ServesBehindTables task course m a status → status ≡ statuses.Outside
     → Rises b.faults a.faults ⊎ IsJobRefused course
 goes_outside task (unread end) b m a status reads goes same =
     inl (elim (unread_outside end m a status goes same) [
@@ -153,9 +154,9 @@ unread_reason task inputs.Outside m a status ends_so same = inr (refl, ends_so.1
 unread_reason task inputs.Memory m a status ends_so same =
     absurd (let e : statuses.Memory ≡ statuses.Outside = sym ends_so.0 ∙ same in cc)
 
-goes_reason : (task : ServeTask) (course : Course) (b m a : OutsideTold) (status : Status)
+goes_reason : (task : ServeTask) (course : ServeCourse) (b m a : OutsideTold) (status : Status)
     → ReadsValue tables_in task.tables TEXT_LIMIT (tables_read course) b m
-    → GoesOn task course m a status → status ≡ statuses.Outside
+    → ServesBehindTables task course m a status → status ≡ statuses.Outside
     → HasFaultyName task b a ⊎ IsJobRefused course
 goes_reason task (unread end) b m a status reads goes same =
     inl (elim (unread_reason task end m a status goes same) [
@@ -206,8 +207,8 @@ runs_done name (Some node) setup before after seats end ended b m a serves close
       both.1,
     )
 
-goes_done : (task : ServeTask) (course : Course) (m a : OutsideTold)
-    → GoesOn task course m a statuses.Done → IsAllDone task course a
+goes_done : (task : ServeTask) (course : ServeCourse) (m a : OutsideTold)
+    → ServesBehindTables task course m a statuses.Done → IsServedToEnd task course a
 goes_done task (unread end) m a goes = unread_done end m a goes
 goes_done task (unshared centre) m a goes =
     absurd (let e : statuses.Done ≡ statuses.Memory = goes.0 in cc)
@@ -216,6 +217,26 @@ goes_done task (unopened centre) m a goes =
 goes_done task (served run) m a goes =
     runs_done task.journal run.node _ run.before run.after run.seats run.end goes.runs.ended
     goes.opened goes.runs.closed a goes.runs.serves goes.runs.closes goes.runs.keeps
+
+-- ---- want of memory
+
+unread_memory : (end : InputEnd) (m a : OutsideTold)
+    → EndsUnread (codes "tables") end m a statuses.Memory → end ≡ inputs.Memory
+unread_memory (inputs.Refused refusal) m a ends_so =
+    absurd (elim ends_so.1 [ inl same ↦ cc | inr same ↦ cc ])
+unread_memory inputs.Outside m a ends_so =
+    absurd (let e : statuses.Memory ≡ statuses.Outside = ends_so.0 in cc)
+unread_memory inputs.Memory m a ends_so = refl
+
+goes_memory : (task : ServeTask) (course : ServeCourse) (m a : OutsideTold)
+    → ServesBehindTables task course m a statuses.Memory → LacksMemoryAt task course a
+goes_memory task (unread end) m a goes = unread_memory end m a goes
+goes_memory task (unshared centre) m a goes = tt
+goes_memory task (unopened centre) m a goes =
+    absurd (let e : statuses.Memory ≡ statuses.Outside = goes.0 in cc)
+goes_memory task (served run) m a goes =
+    kept_memory task.journal run.node run.end run.after.plant goes.runs.closes.plant
+    goes.runs.ended goes.runs.closed a goes.runs.closes.tells goes.runs.keeps
 
 -- ---- the status
 
@@ -261,8 +282,8 @@ kept_answers name (Some node) ended status m a keeps answers =
     subst (λ s. IsServeStatus s) (sym keeps.2)
     (written_answers keeps.0 ended keeps.1.ends answers)
 
-goes_answers : (task : ServeTask) (course : Course) (m a : OutsideTold) (status : Status)
-    → GoesOn task course m a status → IsServeStatus status
+goes_answers : (task : ServeTask) (course : ServeCourse) (m a : OutsideTold) (status : Status)
+    → ServesBehindTables task course m a status → IsServeStatus status
 goes_answers task (unread end) m a status goes = unread_answers end m a status goes
 goes_answers task (unshared centre) m a status goes =
     subst (λ s. IsServeStatus s) (sym goes.0) tt
@@ -279,7 +300,7 @@ goes_answers task (served run) m a status goes =
 pub serves-command : (task : ServeTask) (read : Result CentreRows InputEnd)
     (b m a : OutsideTold) (refused later : ℕ) (status : Status)
     → ReadsValue tables_in task.tables TEXT_LIMIT read b m
-    → GoesBehind task read m a refused later status → ServesCommand task b a refused later status
+    → TakesCourse task read m a refused later status → ServesCommand task b a refused later status
 serves-command task read b m a refused later status reads goes =
     let tables : ReadsValue tables_in task.tables TEXT_LIMIT (tables_read goes.course) b m =
     subst (λ (r : Result CentreRows InputEnd). ReadsValue tables_in task.tables TEXT_LIMIT r b m)
@@ -292,6 +313,8 @@ serves-command task read b m a refused later status reads goes =
       answers = goes_answers task goes.course m a status goes.goes;
       outside = λ same. goes_outside task goes.course b m a status tables goes.goes same;
       reason = λ same. goes_reason task goes.course b m a status tables goes.goes same;
+      memory = λ same. goes_memory task goes.course m a
+          (subst (λ s. ServesBehindTables task goes.course m a s) same goes.goes);
       done = λ same. goes_done task goes.course m a
-          (subst (λ s. GoesOn task goes.course m a s) same goes.goes);
+          (subst (λ s. ServesBehindTables task goes.course m a s) same goes.goes);
     }

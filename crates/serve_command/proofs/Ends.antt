@@ -21,6 +21,7 @@ use Rattle.server_main.specs.Serving.{ServerTold, HasRisen, HasFailed}
 use Rattle.serve_command.specs.Opening.{WorkTold}
 use Rattle.serve_command.specs.Courses.{work_of}
 use Rattle.serve_command.specs.Serving.{TellsEnd, ClosesServer, KeepsNode, IsNodeKept}
+use Rattle.serve_command.specs.Serving.{IsJournalShort}
 use Rattle.serve_command.proofs.Counted.{next-positive, Grows-counted, Rises-faulty, inputs-grow}
 use Rattle.serve_command.proofs.Counted.{inputs-rise}
 
@@ -62,6 +63,23 @@ ended_done (ends.Full weight limit) k l tells = neither statuses.Full (λ same. 
 ended_done ends.Memory k l tells =
     absurd (let e : statuses.Done ≡ statuses.Memory = tells.0 in cc)
 
+not_memory : {P : Type 0} (other : Status)
+    → (statuses.Memory ≡ other → ⊥)
+    → (statuses.Memory ≡ other) ⊎ (statuses.Memory ≡ statuses.Outside) → P
+not_memory {P} other differs (inl same) = absurd (differs same)
+not_memory {P} other differs (inr same) = absurd cc
+
+-- Want of memory is the answer only where the server ended so.
+ended_memory : (end : ServeEnd) (k l : SinkTold) → TellsEnd end k l statuses.Memory
+    → end ≡ ends.Memory
+ended_memory ends.Done k l tells =
+    absurd (let e : statuses.Memory ≡ statuses.Done = tells.0 in cc)
+ended_memory (ends.BadFeed line) k l tells = not_memory statuses.Input (λ same. cc) tells.1
+ended_memory ends.Outside k l tells =
+    absurd (let e : statuses.Memory ≡ statuses.Outside = tells.0 in cc)
+ended_memory (ends.Full weight limit) k l tells = not_memory statuses.Full (λ same. cc) tells.1
+ended_memory ends.Memory k l tells = refl
+
 -- ---- the journal behind it
 
 pub Uses-grow : (inputs outputs : List (List ℕ)) (status : Status) (b a : OutsideTold)
@@ -87,6 +105,30 @@ written_done statuses.Done ended file same = (refl, sym same)
 written_done statuses.Outside ended file same = absurd cc
 written_done statuses.Memory ended file same = absurd cc
 written_done other ended file same = absurd file
+
+written_memory : (written ended : Status) → IsFileEnd written
+    → statuses.Memory ≡ status_behind ended written
+    → (ended ≡ statuses.Memory) ⊎ (written ≡ statuses.Memory)
+written_memory statuses.Done ended file same = inl (sym same)
+written_memory statuses.Outside ended file same = absurd cc
+written_memory statuses.Memory ended file same = inr refl
+written_memory other ended file same = absurd file
+
+-- Want of memory is the answer only where the server ended so, or where the journal wasn't written
+-- for it.
+pub kept_memory : (name : List ℕ) (node : Option NodeState) (end : ServeEnd) (k l : SinkTold)
+    (ended : Status) (m a : OutsideTold) → TellsEnd end k l ended
+    → KeepsNode name node ended m a statuses.Memory
+    → (end ≡ ends.Memory) ⊎ IsJournalShort name node a
+kept_memory name None end k l ended m a tells keeps =
+    inl (ended_memory end k l (subst (λ s. TellsEnd end k l s) (sym keeps.0) tells))
+kept_memory name (Some node) end k l ended m a tells keeps =
+    elim (written_memory keeps.0 ended keeps.1.ends keeps.2) [
+      | inl before ↦
+          inl (ended_memory end k l (subst (λ s. TellsEnd end k l s) before tells))
+      | inr short ↦
+          inr (m, subst (λ s. WritesFile name (journal_text node.history) m a s) short keeps.1)
+    ]
 
 -- A fault outside is the answer where it was so before, or where the count rose since.
 pub kept_outside : (name : List ℕ) (node : Option NodeState) (ended status : Status)

@@ -12,6 +12,8 @@ use Rattle.command_io.specs.Statuses.{is_outside}
 use Rattle.command_io.specs.OutsideUse.{FaultyAt, source_faults, sink_faults}
 use Rattle.command_io.specs.Saying.{Said, prints, refusal_text, full_text}
 use Rattle.command_io.specs.Runs.{output_name, TellsSaid}
+use Rattle.command_io.proofs.Entries.{IsLater, lifted, failed_faulty, unhanded, handed_faulty}
+use Rattle.command_io.proofs.Entries.{handed_later, IsKept, kept_all, kept_used}
 use Rattle.command_words.specs.Words.{ServeTask}
 use Rattle.server_main.specs.declared.serve_end.ServeEnd.{ServeEnd}
 use Rattle.server_main.specs.declared.serve_end.ServeEnd.TheVariants as ends
@@ -21,9 +23,7 @@ use Rattle.serve_command.specs.Courses.{ServerRun, work_of}
 use Rattle.serve_command.specs.Serving.{TellsEnd, ClosesServer, KeepsNode, RunsServer}
 use Rattle.serve_command.specs.Serving.{listener_faults, clock_faults, HasFaultyName}
 use Rattle.serve_command.proofs.Ends.{ended_outside, written_outside, risen_positive}
-use Rattle.serve_command.proofs.Entries.{IsLater, lifted, failed_faulty, unhanded, handed_faulty}
-use Rattle.serve_command.proofs.Entries.{handed_later, clock_unhanded, clock_faulty, IsKept}
-use Rattle.serve_command.proofs.Entries.{kept_all, kept_used, faulty_between}
+use Rattle.serve_command.proofs.Entries.{clock_unhanded, clock_faulty, faulty_between}
 
 -- ---- what isn't handed out
 

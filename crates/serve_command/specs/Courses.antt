@@ -18,17 +18,17 @@ pub record ServerRun : Type 0 where
   pub seats : Seats
   pub end : ServeEnd
 
-pub data Course : Type 0 where
+pub data ServeCourse : Type 0 where
   -- the tables couldn't be read
-  unread : InputEnd → Course
+  unread : InputEnd → ServeCourse
   -- they were read, and memory was wanting for what the threads of a server share
-  unshared : CentreRows → Course
+  unshared : CentreRows → ServeCourse
   -- the listener, the feed, the clock or the plant wasn't handed out
-  unopened : CentreRows → Course
-  served : ServerRun → Course
+  unopened : CentreRows → ServeCourse
+  served : ServerRun → ServeCourse
 
 -- what the tables were read to
-abbrev pub tables_read : Course → Result CentreRows InputEnd
+abbrev pub tables_read : ServeCourse → Result CentreRows InputEnd
 tables_read (unread end) = Err end
 tables_read (unshared centre) = Ok centre
 tables_read (unopened centre) = Ok centre

@@ -15,6 +15,7 @@ use Rattle.command_io.specs.declared.status.Status.{Status}
 use Rattle.command_io.specs.declared.status.Status.TheVariants as statuses
 use Rattle.command_io.specs.declared.input.TheConstants.{TEXT_LIMIT}
 use Rattle.command_io.specs.declared.input.InputEnd.{InputEnd}
+use Rattle.command_io.specs.declared.input.InputEnd.TheVariants as inputs
 use Rattle.command_io.specs.declared.input.Refusal.TheVariants as refusals
 use Rattle.command_io.specs.OutsideUse.{Rises, SomeOf, FaultyAt, source_faults, sink_faults}
 use Rattle.command_io.specs.Saying.{prints, refusal_text, full_text}
@@ -27,7 +28,7 @@ use Rattle.server_main.specs.declared.serve_end.ServeEnd.{ServeEnd}
 use Rattle.server_main.specs.declared.serve_end.ServeEnd.TheVariants as ends
 use Rattle.server_main.specs.Serving.{IsServed, IsUnstarted}
 use Rattle.serve_command.specs.Opening.{input_name, WorkTold, OpensAll}
-use Rattle.serve_command.specs.Courses.{ServerRun, Course, unread, unshared, unopened, served}
+use Rattle.serve_command.specs.Courses.{ServerRun, ServeCourse, unread, unshared, unopened, served}
 use Rattle.serve_command.specs.Courses.{tables_read, work_of}
 
 -- the listener, the feed and the clock are closed, as the server left them
@@ -70,16 +71,16 @@ KeepsNode name (Some node) status before after result = (written : Status)
     × (result ≡ status_behind status written)
 
 -- the tables that a server serves, and the octets that its history may weigh
-abbrev pub setup_of : ServeTask → ServerRun → NodeSetup
-setup_of task run = record { centre = run.centre; limit = served_limit task }
+abbrev pub served_setup : ServeTask → ServerRun → NodeSetup
+served_setup task run = record { centre = run.centre; limit = served_limit task }
 
 -- what was opened is served and closed again, and then the node's journal is written
 pub record RunsOpened (task : ServeTask) (before after : OutsideTold) (run : ServerRun)
     (status : Status) : Type 0 where
-  pub serves : IsServed (setup_of task run) run.before run.after
+  pub serves : IsServed (served_setup task run) run.before run.after
       (option_map (λ node. turn_log node.history) run.node) run.seats run.end
   -- its node is of these tables, and has this limit
-  pub of : IfSome run.node (λ node. turn_setup node.setup ≡ setup_of task run)
+  pub of : IfSome run.node (λ node. turn_setup node.setup ≡ served_setup task run)
   pub closed : OutsideTold
   pub ended : Status
   pub closes : ClosesServer before closed (work_of run.after) run.end ended
@@ -93,17 +94,18 @@ pub record RunsServer (task : ServeTask) (before after : OutsideTold) (run : Ser
   pub runs : RunsOpened task opened after run status
 
 -- what the command does behind its tables
-abbrev pub GoesOn : ServeTask → Course → OutsideTold → OutsideTold → Status → Type 0
-GoesOn task (unread end) before after status =
+abbrev pub ServesBehindTables : ServeTask → ServeCourse → OutsideTold → OutsideTold → Status
+    → Type 0
+ServesBehindTables task (unread end) before after status =
     EndsUnread (codes "tables") end before after status
-GoesOn task (unshared centre) before after status =
+ServesBehindTables task (unshared centre) before after status =
     (status ≡ statuses.Memory) × (after ≡ before)
-GoesOn task (unopened centre) before after status =
+ServesBehindTables task (unopened centre) before after status =
     (status ≡ statuses.Outside) × OpensAll task.address before after None
-GoesOn task (served run) before after status = RunsServer task before after run status
+ServesBehindTables task (served run) before after status = RunsServer task before after run status
 
 -- the spawner's count of faults before and after: a server alone starts jobs
-abbrev pub CountsStarts : Course → ℕ → ℕ → Type 0
+abbrev pub CountsStarts : ServeCourse → ℕ → ℕ → Type 0
 CountsStarts (unread end) before after = after ≡ before
 CountsStarts (unshared centre) before after = after ≡ before
 CountsStarts (unopened centre) before after = after ≡ before
@@ -120,15 +122,15 @@ pub record ServesOpened (task : ServeTask) (centre : CentreRows) (opened : WorkT
   pub runs : RunsOpened task before after run status
 
 -- the course of the command behind tables that were read to this
-pub record GoesBehind (task : ServeTask) (read : Result CentreRows InputEnd)
+pub record TakesCourse (task : ServeTask) (read : Result CentreRows InputEnd)
     (before after : OutsideTold) (refused refused_after : ℕ) (status : Status) : Type 0 where
-  pub course : Course
+  pub course : ServeCourse
   pub tables : tables_read course ≡ read
-  pub goes : GoesOn task course before after status
+  pub goes : ServesBehindTables task course before after status
   pub starts : CountsStarts course refused refused_after
 
 -- the job of the feed or of the clock was refused, which the spawner counted
-abbrev pub IsJobRefused : Course → Type 0
+abbrev pub IsJobRefused : ServeCourse → Type 0
 IsJobRefused (unread end) = ⊥
 IsJobRefused (unshared centre) = ⊥
 IsJobRefused (unopened centre) = ⊥
@@ -157,12 +159,27 @@ IsNodeKept name None after = ⊥
 IsNodeKept name (Some node) after = (closed : OutsideTold)
     × WritesFile name (journal_text node.history) closed after statuses.Done
 
+-- memory was wanting for the journal of the node
+abbrev pub IsJournalShort : List ℕ → Option NodeState → OutsideTold → Type 0
+IsJournalShort name None after = ⊥
+IsJournalShort name (Some node) after = (closed : OutsideTold)
+    × WritesFile name (journal_text node.history) closed after statuses.Memory
+
+-- Memory was wanting, and for what: for the tables, for what the threads of a server share, for the
+-- server, which then left something undone, or for the journal.
+abbrev pub LacksMemoryAt : ServeTask → ServeCourse → OutsideTold → Type 0
+LacksMemoryAt task (unread end) after = end ≡ inputs.Memory
+LacksMemoryAt task (unshared centre) after = Unit {0}
+LacksMemoryAt task (unopened centre) after = ⊥
+LacksMemoryAt task (served run) after =
+    (run.end ≡ ends.Memory) ⊎ IsJournalShort task.journal run.node after
+
 -- the server came to its end, and the journal is whole
-abbrev pub IsAllDone : ServeTask → Course → OutsideTold → Type 0
-IsAllDone task (unread end) after = ⊥
-IsAllDone task (unshared centre) after = ⊥
-IsAllDone task (unopened centre) after = ⊥
-IsAllDone task (served run) after =
+abbrev pub IsServedToEnd : ServeTask → ServeCourse → OutsideTold → Type 0
+IsServedToEnd task (unread end) after = ⊥
+IsServedToEnd task (unshared centre) after = ⊥
+IsServedToEnd task (unopened centre) after = ⊥
+IsServedToEnd task (served run) after =
     (run.end ≡ ends.Done) × IsNodeKept task.journal run.node after
 
 -- a status that the command may answer: its words are a command, and nothing is compared
@@ -178,10 +195,10 @@ IsServeStatus status = ⊥
 -- status that it answers
 pub record ServesCommand (task : ServeTask) (before after : OutsideTold)
     (refused refused_after : ℕ) (status : Status) : Type 0 where
-  pub course : Course
+  pub course : ServeCourse
   pub told : OutsideTold
   pub tables : ReadsValue tables_in task.tables TEXT_LIMIT (tables_read course) before told
-  pub goes : GoesOn task course told after status
+  pub goes : ServesBehindTables task course told after status
   pub starts : CountsStarts course refused refused_after
   pub answers : IsServeStatus status
   -- a failure is answered only where the outside's count of faults rose, or a job was refused
@@ -190,5 +207,7 @@ pub record ServesCommand (task : ServeTask) (before after : OutsideTold)
   -- and only where one of the objects outside is missing or has failed, or a job was refused
   pub reason : status ≡ statuses.Outside
       → HasFaultyName task before after ⊎ IsJobRefused course
+  -- want of memory is answered only where something was left undone for it
+  pub memory : status ≡ statuses.Memory → LacksMemoryAt task course after
   -- it is called done only where all is
-  pub done : status ≡ statuses.Done → IsAllDone task course after
+  pub done : status ≡ statuses.Done → IsServedToEnd task course after

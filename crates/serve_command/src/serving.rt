@@ -4,7 +4,7 @@ ghost use Rattle.std.specs.Arc.{arc_value};
 ghost use Rattle.node_turn.specs.Logged.{turn_setup, turn_log};
 ghost use Rattle.command_words.specs.Words.{served_limit, serve_seen};
 ghost use Rattle.server_main.specs.Serving.{IsServed, server_told};
-ghost use Rattle.serve_command.specs.Serving.{ServesCommand, GoesBehind, ServesOpened};
+ghost use Rattle.serve_command.specs.Serving.{ServesCommand, TakesCourse, ServesOpened};
 ghost use Rattle.serve_command.specs.Serving.{TellsEnd, KeepsNode, ClosesServer};
 
 use crate::opening::{Opened, open_all};
@@ -85,7 +85,7 @@ impl<'a, R: Threads + Wait + Copy + Send + 'static> ServeCommand<'a, R> {
         O::Clock: Send + 'static,
         requires limit { served_limit (serve_seen self.now.words) ≤ 268435456 }
         requires none { spawner.old.told.pending ≡ [] }
-        ensures goes { GoesBehind (serve_seen self.now.words) read (O.told outside.old)
+        ensures goes { TakesCourse (serve_seen self.now.words) read (O.told outside.old)
             (O.told outside.new) spawner.old.told.faults spawner.new.told.faults result }
         ensures left { spawner.new.told.pending ≡ [] }
     {
@@ -108,7 +108,7 @@ impl<'a, R: Threads + Wait + Copy + Send + 'static> ServeCommand<'a, R> {
         O::Clock: Send + 'static,
         requires limit { served_limit (serve_seen self.now.words) ≤ 268435456 }
         requires none { spawner.old.told.pending ≡ [] }
-        ensures goes { GoesBehind (serve_seen self.now.words) (Ok centre) (O.told outside.old)
+        ensures goes { TakesCourse (serve_seen self.now.words) (Ok centre) (O.told outside.old)
             (O.told outside.new) spawner.old.told.faults spawner.new.told.faults result }
         ensures left { spawner.new.told.pending ≡ [] }
     {
@@ -131,7 +131,7 @@ impl<'a, R: Threads + Wait + Copy + Send + 'static> ServeCommand<'a, R> {
         O::Clock: Send + 'static,
         requires limit { served_limit (serve_seen self.now.words) ≤ 268435456 }
         requires none { spawner.old.told.pending ≡ [] }
-        ensures goes { GoesBehind (serve_seen self.now.words) (Ok (arc_value centre.now))
+        ensures goes { TakesCourse (serve_seen self.now.words) (Ok (arc_value centre.now))
             (O.told outside.old) (O.told outside.new) spawner.old.told.faults
             spawner.new.told.faults result }
         ensures left { spawner.new.told.pending ≡ [] }

@@ -1,13 +1,17 @@
 -- Of several ends the first is answered.
 use Rattle.std.proofs.Common.{◌≡◌, ℕ, Bool, true, false, ◌||◌, refl, sym, ap, subst, ◌∙◌}
 use Rattle.std.proofs.Common.{Option, Some, None}
+use Rattle.node_server.specs.declared.feed_end.FeedEnd.{FeedEnd}
+use Rattle.node_server.specs.declared.feed_end.FeedEnd.TheVariants as feed_ends
+use Rattle.server_run.specs.declared.seats.FeedSeat.{FeedSeat}
 use Rattle.server_run.specs.declared.seats.Seats.{Seats}
 use Rattle.server_main.specs.declared.fullness.Fullness.{Fullness}
 use Rattle.server_main.specs.declared.work_end.WorkEnd.{WorkEnd}
 use Rattle.server_main.specs.declared.serve_end.ServeEnd.{ServeEnd}
 use Rattle.server_main.specs.declared.serve_end.ServeEnd.TheVariants as ends
 use Rattle.server_main.specs.ServedParts.{IsAllDone, fails_outside, first_full, full_at}
-use Rattle.server_main.specs.ServedParts.{bad_line_of, EndsBy, is_refused_work, is_listener_work}
+use Rattle.server_main.specs.ServedParts.{bad_line_fed, bad_line_of, is_read_out, has_read_out}
+use Rattle.server_main.specs.ServedParts.{EndsBy, is_refused_work, is_listener_work}
 use Rattle.server_main.specs.ServedParts.{has_source_fault, has_clock_fault}
 use Rattle.server_main.specs.Ending.{EndsPlain, EndsUnfull, EndsInside}
 
@@ -15,6 +19,22 @@ whole-done : (work : WorkEnd) (failed : Bool) (seats : Seats) → failed ≡ fal
     → IsAllDone work false seats → IsAllDone work failed seats
 whole-done work failed seats is done =
     subst (λ (b : Bool). IsAllDone work b seats) (sym is) done
+
+done-whole : (work : WorkEnd) (failed : Bool) (seats : Seats)
+    → IsAllDone work failed seats → IsAllDone work false seats
+done-whole work failed seats done =
+    subst (λ (b : Bool). IsAllDone work b seats) done.whole done
+
+-- a feed that was read to its end has no bad line
+read-good : {A : Type 0} (feed : Option FeedSeat) (line : ℕ) → bad_line_of feed ≡ Some line
+    → has_read_out feed ≡ true → A
+read-good {A} None line bad read = absurd (let e : false ≡ true = read in cc)
+read-good {A} (Some fed) line bad read = read-fed fed.end bad read
+  where
+    read-fed : (end : FeedEnd) → bad_line_fed end ≡ Some line → is_read_out end ≡ true → A
+    read-fed feed_ends.Ended told is = absurd (let e : None ≡ Some line = told in cc)
+    read-fed feed_ends.StopLine told is = absurd (let e : None ≡ Some line = told in cc)
+    read-fed other told is = absurd (let e : false ≡ true = is in cc)
 
 none-quiet : (a b c : Bool) → (a || (b || (true || c))) ≡ false → ⊥
 none-quiet true b c e = absurd cc
@@ -37,7 +57,9 @@ module _ (work : WorkEnd) (failed : Bool) (seats : Seats) where
     full = λ weight limit quiet e. absurd cc;
     bad_feed_only = λ line e. absurd cc;
     bad_feed = λ line quiet none e. absurd cc;
-    done = λ e. absurd cc;
+    done_only = λ e. absurd cc;
+    done = λ still room all. absurd (cc (fails, still));
+    memory_only = λ e. absurd cc;
   }
 
 some-same : {A : Type 0} (a b : A) → Some a ≡ Some b → a ≡ b
@@ -69,7 +91,9 @@ module _ (work : WorkEnd) (failed : Bool) (seats : Seats)
         (some-same full (full_at weight limit) (sym is ∙ e));
     bad_feed_only = λ line e. absurd cc;
     bad_feed = λ line still none e. absurd (cc (is, none));
-    done = λ e. absurd cc;
+    done_only = λ e. absurd cc;
+    done = λ still none all. absurd (cc (is, none));
+    memory_only = λ e. absurd cc;
   }
 
   module _ (room : first_full work seats ≡ None) where
@@ -86,7 +110,9 @@ module _ (work : WorkEnd) (failed : Bool) (seats : Seats)
       bad_feed_only = λ other e. (room, is ∙ ap (λ (n : ℕ). Some n) (same-line line other e));
       bad_feed = λ other still none e. ap (λ (n : ℕ). ends.BadFeed n)
           (some-same line other (sym is ∙ e));
-      done = λ e. absurd cc;
+      done_only = λ e. absurd cc;
+      done = λ still none all. read-good seats.feed line is all.read;
+      memory_only = λ e. absurd cc;
     }
 
     ends-plain : (end : ServeEnd) → bad_line_of seats.feed ≡ None → EndsPlain work seats end
@@ -98,7 +124,9 @@ module _ (work : WorkEnd) (failed : Bool) (seats : Seats)
       full = λ weight limit still e. no-room (full_at weight limit) e;
       bad_feed_only = λ line e. absurd cc;
       bad_feed = λ line still none e. absurd (cc (good, e));
-      done = λ e. whole-done work failed seats (not-plant work failed seats quiet) plain;
+      done_only = λ e. whole-done work failed seats (not-plant work failed seats quiet) plain;
+      done = λ still none all. refl;
+      memory_only = λ e. absurd cc;
     }
     ends-plain ends.Memory good plain = record {
       outside_only = λ e. absurd cc;
@@ -107,7 +135,9 @@ module _ (work : WorkEnd) (failed : Bool) (seats : Seats)
       full = λ weight limit still e. no-room (full_at weight limit) e;
       bad_feed_only = λ line e. absurd cc;
       bad_feed = λ line still none e. absurd (cc (good, e));
-      done = λ e. absurd cc;
+      done_only = λ e. absurd cc;
+      done = λ still none all. absurd (plain (done-whole work failed seats all));
+      memory_only = λ e all. plain (done-whole work failed seats all);
     }
     ends-plain ends.Outside good plain = absurd plain
     ends-plain (ends.Full weight limit) good plain = absurd plain

@@ -10,7 +10,7 @@ use Rattle.server_main.specs.declared.serve_end.ServeEnd.TheVariants as ends
 -- where nothing failed outside, the history isn't full and the feed has no bad line
 abbrev pub EndsPlain : WorkEnd → Seats → ServeEnd → Type 0
 EndsPlain work seats ends.Done = IsAllDone work false seats
-EndsPlain work seats ends.Memory = Unit {0}
+EndsPlain work seats ends.Memory = IsAllDone work false seats → ⊥
 EndsPlain work seats ends.Outside = ⊥
 EndsPlain work seats (ends.Full weight limit) = ⊥
 EndsPlain work seats (ends.BadFeed line) = ⊥

@@ -222,8 +222,9 @@ pub record IsAllDone (work : WorkEnd) (plant_failed : Bool) (seats : Seats) : Ty
   pub ample_links : list_any is_short_link seats.links.seats ≡ false
   pub whole : plant_failed ≡ false
 
--- Of several ends the first of `Outside`, `Full`, `BadFeed`, `Memory` and `Done` is answered. By
--- `Memory` it may end wherever none of the first three comes.
+-- Of several ends the first of `Outside`, `Full`, `BadFeed`, `Memory` and `Done` is answered. Where
+-- all is done, want of memory is no end: by `Memory` it ends only where something is left undone
+-- and none of the first three comes.
 pub record EndsBy (work : WorkEnd) (plant_failed : Bool) (seats : Seats) (end : ServeEnd)
     : Type 0 where
   pub outside_only : end ≡ ends.Outside → fails_outside work plant_failed seats ≡ true
@@ -237,4 +238,7 @@ pub record EndsBy (work : WorkEnd) (plant_failed : Bool) (seats : Seats) (end : 
   pub bad_feed : (line : ℕ) → fails_outside work plant_failed seats ≡ false
       → first_full work seats ≡ None → bad_line_of seats.feed ≡ Some line
       → end ≡ ends.BadFeed line
-  pub done : end ≡ ends.Done → IsAllDone work plant_failed seats
+  pub done_only : end ≡ ends.Done → IsAllDone work plant_failed seats
+  pub done : fails_outside work plant_failed seats ≡ false → first_full work seats ≡ None
+      → IsAllDone work plant_failed seats → end ≡ ends.Done
+  pub memory_only : end ≡ ends.Memory → IsAllDone work plant_failed seats → ⊥

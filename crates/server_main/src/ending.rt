@@ -68,9 +68,10 @@ fn end_plain(work: WorkEnd, seats: &Seats) -> ServeEnd
     }
 }
 
-/// True only where all is done.
+/// True exactly where all is done.
 fn is_done(work: WorkEnd, seats: &Seats) -> bool
-    ensures { result ≡ true → IsAllDone work false seats.now }
+    ensures only { result ≡ true → IsAllDone work false seats.now }
+    ensures all { IsAllDone work false seats.now → result ≡ true }
 {
     if work != WorkEnd::Ended(ServingEnd::Stopped) {
         return false;

@@ -1,12 +1,12 @@
 use Rattle.std.proofs.Common.{Ok, refl, subst}
 use Rattle.command_words.specs.Words.{serve_seen}
 use Rattle.serve_command.specs.Courses.{unshared}
-use Rattle.serve_command.specs.Serving.{GoesBehind}
+use Rattle.serve_command.specs.Serving.{TakesCourse}
 use Rattle.serve_command.proofs.serving.ServeCommand.serve_centre.Goals as goal
 
 pub returns-in-Ok-clause-goes : goal.returns-in-Ok-clause-goes
 returns-in-Ok-clause-goes g c =
-    subst (λ rows. GoesBehind (serve_seen c.args.self.now.words) (Ok rows)
+    subst (λ rows. TakesCourse (serve_seen c.args.self.now.words) (Ok rows)
     (g.O.Outside.told c.args.outside.now) (g.O.Outside.told c.serve_shared.new.outside)
     c.args.spawner.now.told.faults c.serve_shared.new.spawner.told.faults c.serve_shared.result)
     c.in-Ok.ensures c.serve_shared.ensures.goes
