@@ -1,5 +1,5 @@
 -- A run of a client's command: what it answers, and why a failure is answered.
-use Rattle.std.proofs.Common.{◌≡◌, ◌⊎◌, ℕ, true, List, refl, sym, ap, subst, inl, inr}
+use Rattle.std.proofs.Common.{◌≡◌, ◌⊎◌, ℕ, true, List, [], ◌∷◌, refl, sym, ap, subst, inl, inr}
 use Rattle.std.specs.Prelude.{Result, Ok, Err, Vec, codes}
 use Rattle.std.specs.declared.alloc.Global.{Global}
 use Rattle.outside_names.specs.Outside.{OutsideTold}
@@ -16,12 +16,15 @@ use Rattle.command_io.specs.OutsideUse.{Grows, Rises}
 use Rattle.command_io.specs.Runs.{EndsUnread}
 use Rattle.command_io.specs.Plans.{IsValue, IsSpelled, ReadsValue}
 use Rattle.command_io.proofs.Leaving.{Grows-same, Rises-after, Rises-grows}
+use Rattle.command_io.proofs.Entries.{IsKept, kept_used}
 use Rattle.command_words.specs.Words.{ClientTask}
 use Rattle.node_files.specs.Tables.{tables_in}
 use Rattle.client_command.specs.Playing.{GoesBehindScript, GoesBehindTables}
-use Rattle.client_command.specs.Playing.{PlaysOver, PlaysScript}
+use Rattle.client_command.specs.Playing.{PlaysAtNode, PlaysScript, HasFaultyPart, IsScriptDone}
 use Rattle.client_command.proofs.Faults.{opened_grows, unopened_rises}
-use Rattle.client_command.proofs.Played.{played_rises, run_unasked}
+use Rattle.client_command.proofs.Played.{played_rises, run_unasked, run_done}
+use Rattle.client_command.proofs.Reasons.{unopened_faulty, played_faulty, faulty_behind}
+use Rattle.client_command.proofs.Reasons.{tables_faulty, script_faulty, printing_faulty}
 
 -- ---- an input
 
@@ -77,7 +80,7 @@ behind_unread called end b m a status grows risen ends is =
 
 module _ (task : ClientTask) (rows : CentreRows) (text : List ℕ) (before after : OutsideTold)
     (status : Status) where
-  over_rises : PlaysOver task rows text before after status → status ≡ statuses.Outside
+  over_rises : PlaysAtNode task rows text before after status → status ≡ statuses.Outside
       → Rises before.faults after.faults
   over_rises over is = Rises-after before.faults over.opened.faults after.faults
       (opened_grows task.address before over.opened over.link over.sink over.opens)
@@ -95,8 +98,8 @@ module _ (task : ClientTask) (rows : CentreRows) (text : List ℕ) (before after
   text_unasked (inl (inl over)) is = run_unasked over.plays.end over.plays.shown over.plays.told
       status over.plays.tells is
   text_unasked (inl (inr unconnected)) is = absurd cc
-  text_unasked (inr (inl refuses)) is = unread_unasked (codes "script") (Refused (BadLine refuses.fault.line))
-      before after status refuses.told is
+  text_unasked (inr (inl refuses)) is = unread_unasked (codes "script")
+      (Refused (BadLine refuses.fault.line)) before after status refuses.told is
   text_unasked (inr (inr wanting)) is = absurd cc
 
 script_rises : (task : ClientTask) (rows : CentreRows) (read : Result (Vec ℕ Global) InputEnd)
@@ -108,7 +111,8 @@ script_rises task rows (Ok text) b m a status reads goes is =
     (input_grows b m task.script TEXT_LIMIT (Ok text) reads)
     (text_rises task rows text.items m a status goes is)
 script_rises task rows (Err end) b m a status reads goes is =
-    behind_unread (codes "script") end b m a status (input_grows b m task.script TEXT_LIMIT (Err end) reads)
+    behind_unread (codes "script") end b m a status
+    (input_grows b m task.script TEXT_LIMIT (Err end) reads)
     (λ same. reads.opens.uses.counted.cause
     (lost (Err end) (ap (λ (e : InputEnd). Err e) same))) goes is
 
@@ -154,3 +158,122 @@ command_unasked task (Ok rows) m a status goes is =
     script_unasked task rows goes.read goes.mid a status goes.goes is
 command_unasked task (Err end) m a status goes is =
     unread_unasked (codes "tables") end m a status goes is
+
+-- ---- the reason of a failure
+
+input_kept : (b m : OutsideTold) (name : List ℕ) (limit : ℕ)
+    (read : Result (Vec ℕ Global) InputEnd) → ReadsInput b m name limit read → IsKept b m
+input_kept b m name limit read reads =
+    kept_used (name ∷ []) [] (is_lost read) b m reads.opens.uses
+
+unread_reason : (task : ClientTask) (called : List ℕ) (end : InputEnd) (m a : OutsideTold)
+    (status : Status) → EndsUnread called end m a status → status ≡ statuses.Outside
+    → HasFaultyPart task m a ⊎ ((end ≡ Outside) × (a ≡ m))
+unread_reason task called (Refused refusal) m a status ends is =
+    inl (printing_faulty task m a (ends.0.uses.counted.reason (ap is_outside is)))
+unread_reason task called Outside m a status ends is = inr (refl, ends.1)
+unread_reason task called Memory m a status ends is = absurd cc
+
+unread_faulty : (task : ClientTask) (called : List ℕ) (end : InputEnd) (b m a : OutsideTold)
+    (status : Status) → IsKept b m → (end ≡ Outside → HasFaultyPart task b m)
+    → EndsUnread called end m a status → status ≡ statuses.Outside → HasFaultyPart task b a
+unread_faulty task called end b m a status kept faulty ends is =
+    elim (unread_reason task called end m a status ends is) [
+      | inl later ↦ faulty_behind task b m a kept later
+      | inr same ↦ subst (λ (o : OutsideTold). HasFaultyPart task b o) (sym same.1)
+          (faulty same.0)
+    ]
+
+text_faulty : (task : ClientTask) (rows : CentreRows) (text : List ℕ) (m a : OutsideTold)
+    (status : Status) → PlaysScript task rows text m a status → status ≡ statuses.Outside
+    → HasFaultyPart task m a
+text_faulty task rows text m a status (inl (inl over)) is =
+    played_faulty task rows text m a status over is
+text_faulty task rows text m a status (inl (inr unconnected)) is =
+    unopened_faulty task m a unconnected.unopened
+text_faulty task rows text m a status (inr (inl refuses)) is =
+    printing_faulty task m a (refuses.told.0.uses.counted.reason (ap is_outside is))
+text_faulty task rows text m a status (inr (inr wanting)) is = absurd cc
+
+script_reason : (task : ClientTask) (rows : CentreRows) (read : Result (Vec ℕ Global) InputEnd)
+    (b m a : OutsideTold) (status : Status) → ReadsInput b m task.script TEXT_LIMIT read
+    → GoesBehindScript task rows read m a status → status ≡ statuses.Outside
+    → HasFaultyPart task b a
+script_reason task rows (Ok text) b m a status reads goes is =
+    faulty_behind task b m a (input_kept b m task.script TEXT_LIMIT (Ok text) reads)
+    (text_faulty task rows text.items m a status goes is)
+script_reason task rows (Err end) b m a status reads goes is =
+    unread_faulty task (codes "script") end b m a status
+    (input_kept b m task.script TEXT_LIMIT (Err end) reads)
+    (λ same. script_faulty task b m (reads.opens.uses.counted.reason
+    (lost (Err end) (ap (λ (e : InputEnd). Err e) same)))) goes is
+
+pub command_reason : (task : ClientTask) (read : Result CentreRows InputEnd)
+    (b m a : OutsideTold) (status : Status) → ReadsValue tables_in task.tables TEXT_LIMIT read b m
+    → GoesBehindTables task read m a status → status ≡ statuses.Outside
+    → HasFaultyPart task b a
+command_reason task (Ok rows) b m a status reads goes is =
+    faulty_behind task b m a (input_kept b m task.tables TEXT_LIMIT reads.0 reads.1)
+    (script_reason task rows goes.read m goes.mid a status goes.reads goes.goes is)
+command_reason task (Err end) b m a status reads goes is =
+    unread_faulty task (codes "tables") end b m a status
+    (input_kept b m task.tables TEXT_LIMIT reads.0 reads.1)
+    (λ same. tables_faulty task b m (reads.1.opens.uses.counted.reason
+    (value_lost tables_in reads.0 (Err end) reads.2 (ap (λ (e : InputEnd). Err e) same)))) goes is
+
+-- ---- the script is done
+
+unread_undone : {A : Type 0} (called : List ℕ) (end : InputEnd) (m a : OutsideTold)
+    → EndsUnread called end m a statuses.Done → A
+unread_undone {A} called (Refused refusal) m a ends = elim ends.1 [
+  | inl input ↦ absurd (let e : statuses.Done ≡ statuses.Input = input in cc)
+  | inr outside ↦ absurd (let e : statuses.Done ≡ statuses.Outside = outside in cc)
+]
+unread_undone {A} called Outside m a ends =
+    absurd (let e : statuses.Done ≡ statuses.Outside = ends.0 in cc)
+unread_undone {A} called Memory m a ends =
+    absurd (let e : statuses.Done ≡ statuses.Memory = ends.0 in cc)
+
+text_done : (task : ClientTask) (rows : CentreRows) (text : Vec ℕ Global) (b m l a : OutsideTold)
+    → ReadsValue tables_in task.tables TEXT_LIMIT (Ok rows) b m
+    → ReadsInput m l task.script TEXT_LIMIT (Ok text)
+    → PlaysScript task rows text.items l a statuses.Done → IsScriptDone task b a
+text_done task rows text b m l a tables reads (inl (inl over)) = record {
+  rows = rows;
+  text = text;
+  mid = m;
+  last = l;
+  tables = tables;
+  reads = reads;
+  plays = over;
+  finished = run_done over.plays.end over.plays.shown over.plays.told over.plays.tells;
+}
+text_done task rows text b m l a tables reads (inl (inr unconnected)) =
+    absurd (let e : statuses.Done ≡ statuses.Outside = unconnected.answers in cc)
+text_done task rows text b m l a tables reads (inr (inl refuses)) =
+    unread_undone (codes "script") (Refused (BadLine refuses.fault.line)) l a refuses.told
+text_done task rows text b m l a tables reads (inr (inr wanting)) =
+    absurd (let e : statuses.Done ≡ statuses.Memory = wanting.0 in cc)
+
+script_done : (task : ClientTask) (rows : CentreRows) (read : Result (Vec ℕ Global) InputEnd)
+    (b m l a : OutsideTold) → ReadsValue tables_in task.tables TEXT_LIMIT (Ok rows) b m
+    → ReadsInput m l task.script TEXT_LIMIT read → GoesBehindScript task rows read l a statuses.Done
+    → IsScriptDone task b a
+script_done task rows (Ok text) b m l a tables reads goes =
+    text_done task rows text b m l a tables reads goes
+script_done task rows (Err end) b m l a tables reads goes =
+    unread_undone (codes "script") end l a goes
+
+behind_done : (task : ClientTask) (read : Result CentreRows InputEnd) (b m a : OutsideTold)
+    → ReadsValue tables_in task.tables TEXT_LIMIT read b m
+    → GoesBehindTables task read m a statuses.Done → IsScriptDone task b a
+behind_done task (Ok rows) b m a tables goes =
+    script_done task rows goes.read b m goes.mid a tables goes.reads goes.goes
+behind_done task (Err end) b m a tables goes = unread_undone (codes "tables") end m a goes
+
+pub command_done : (task : ClientTask) (read : Result CentreRows InputEnd) (b m a : OutsideTold)
+    (status : Status) → ReadsValue tables_in task.tables TEXT_LIMIT read b m
+    → GoesBehindTables task read m a status → status ≡ statuses.Done → IsScriptDone task b a
+command_done task read b m a status tables goes is =
+    behind_done task read b m a tables
+    (subst (λ (s : Status). GoesBehindTables task read m a s) is goes)

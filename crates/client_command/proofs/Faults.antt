@@ -1,5 +1,5 @@
 -- Where a count of faults rose: at objects that were opened, used and closed again.
-use Rattle.std.proofs.Common.{◌≡◌, ◌∙◌, ℕ, Bool, true, false, Option, Some, None, refl}
+use Rattle.std.proofs.Common.{◌≡◌, ◌∙◌, ℕ, ◌<◌, Bool, true, false, Option, Some, None, refl}
 use Rattle.std.proofs.Common.{inl, inr}
 use Rattle.std.specs.Prelude.{List, [], nat_lt, IfSome}
 use Rattle.std.proofs.lemmas.Bool.{lt-ltb}
@@ -9,8 +9,8 @@ use Rattle.outside_links.specs.LinkAnswers.{LinkAnswers}
 use Rattle.outside_links.specs.Links.{LinkTold}
 use Rattle.outside_names.specs.Outside.{OutsideTold}
 use Rattle.command_io.specs.OutsideUse.{Grows, Rises}
-use Rattle.command_io.proofs.Leaving.{Grows-same, Rises-after, Rises-before, Rises-positive}
-use Rattle.client_command.specs.Opening.{OpensAll, OpensBoth, OpensLink}
+use Rattle.command_io.proofs.Leaving.{Grows-same, Rises-after, Rises-before}
+use Rattle.client_command.specs.Opening.{OpensEach, OpensBoth, OpensLink}
 
 pub counted_grows : (failed : Bool) (before now : ℕ) → now ≡ counted failed before
     → Grows before now
@@ -22,14 +22,11 @@ pub counted_rises : (failed : Bool) (before now : ℕ) → failed ≡ true → n
 counted_rises true before now is counts = (0, counts)
 counted_rises false before now is counts = absurd cc
 
-has_faults : (before now : ℕ) → Rises before now → nat_lt 0 now ≡ true
-has_faults before now risen = lt-ltb 0 now (Rises-positive before now risen)
-
--- an object that has failed is counted where it is closed
-pub failed_rises : (first last before now : ℕ) → last ≡ counted true first
-    → now ≡ counted (nat_lt 0 last) before → Rises before now
-failed_rises first last before now failed closed =
-    counted_rises (nat_lt 0 last) before now (has_faults first last (0, failed)) closed
+-- an object that has a fault is counted where it is closed
+pub faulty_rises : (faults before now : ℕ) → 0 < faults
+    → now ≡ counted (nat_lt 0 faults) before → Rises before now
+faulty_rises faults before now positive closed =
+    counted_rises (nat_lt 0 faults) before now (lt-ltb 0 faults positive) closed
 
 -- where a link or standard output isn't handed out
 unopened_link : (address : List ℕ) (before after : OutsideTold) → OpensLink address before after
@@ -52,7 +49,7 @@ unopened_rises address before after (inr opens) = unopened_link address before a
 
 -- both were handed out
 pub opened_grows : (address : List ℕ) (before after : OutsideTold) (link : LinkTold)
-    (sink : SinkTold) → OpensAll address before after link sink → Grows before.faults after.faults
+    (sink : SinkTold) → OpensEach address before after link sink → Grows before.faults after.faults
 opened_grows address before after link sink opens =
     Grows-same before.faults after.faults (opens.opens.faults ∙ opens.connects.faults)
 

@@ -1,3 +1,5 @@
 pub mod Faults
 pub mod Played
+pub mod Reasons
+pub mod Spared
 pub mod Commands

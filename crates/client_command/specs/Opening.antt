@@ -10,7 +10,7 @@ abbrev pub LeavesLink : OutsideTold → OutsideTold → LinkTold → Type 0
 LeavesLink before after link = ClosesLink before after (closed_link link)
 
 -- both are handed out
-pub record OpensAll (address : List ℕ) (before after : OutsideTold) (link : LinkTold)
+pub record OpensEach (address : List ℕ) (before after : OutsideTold) (link : LinkTold)
     (sink : SinkTold) : Type 0 where
   pub mid : OutsideTold
   pub connects : Connects before mid address (Some link)
@@ -30,4 +30,4 @@ pub record OpensLink (address : List ℕ) (before after : OutsideTold) : Type 0 
 abbrev pub OpensBoth : List ℕ → OutsideTold → OutsideTold → Option (LinkTold × SinkTold) → Type 0
 OpensBoth address before after None =
     Connects before after address None ⊎ OpensLink address before after
-OpensBoth address before after (Some both) = OpensAll address before after both.0 both.1
+OpensBoth address before after (Some both) = OpensEach address before after both.0 both.1

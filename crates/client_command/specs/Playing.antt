@@ -1,5 +1,5 @@
 -- What a client's command leaves outside, and the status that it answers.
-use Rattle.std.specs.Prelude.{◌≡◌, ◌≢◌, ◌⊎◌, ℕ, List, Result, Ok, Err, None, Vec, codes}
+use Rattle.std.specs.Prelude.{◌≡◌, ◌≢◌, ◌⊎◌, ℕ, List, [], ◌∷◌, Result, Ok, Err, None, Vec, codes}
 use Rattle.std.specs.declared.alloc.Global.{Global}
 use Rattle.outside.specs.Sink.{SinkTold}
 use Rattle.outside_links.specs.LinkAnswers.{LinkAnswers}
@@ -10,7 +10,9 @@ use Rattle.bilateral.specs.Rows.{CentreRows}
 use Rattle.centre_client.specs.declared.script.Script.{Script}
 use Rattle.centre_client.specs.declared.fault.ScriptFault.{ScriptFault}
 use Rattle.centre_client.specs.Scripts.{HasScriptFault, SpellsScript}
+use Rattle.centre_client.specs.declared.end.ClientEnd.TheVariants as ends
 use Rattle.client_service.specs.declared.run_end.RunEnd.{RunEnd}
+use Rattle.client_service.specs.declared.run_end.RunEnd.TheVariants as runs
 use Rattle.client_service.specs.Runs.{PlaysText}
 use Rattle.command_io.specs.declared.status.Status.{Status}
 use Rattle.command_io.specs.declared.status.Status.TheVariants as statuses
@@ -19,12 +21,13 @@ use Rattle.command_io.specs.declared.input.InputEnd.{InputEnd}
 use Rattle.command_io.specs.declared.input.InputEnd.TheVariants.{Refused}
 use Rattle.command_io.specs.declared.input.Refusal.TheVariants.{BadLine}
 use Rattle.command_io.specs.Inputs.{ReadsInput}
-use Rattle.command_io.specs.OutsideUse.{Rises}
-use Rattle.command_io.specs.Runs.{EndsUnread}
+use Rattle.command_io.specs.OutsideUse.{Rises, SomeOf, EachOf, FaultyAt, CleanAt}
+use Rattle.command_io.specs.OutsideUse.{source_faults, sink_faults}
+use Rattle.command_io.specs.Runs.{output_name, EndsUnread}
 use Rattle.command_io.specs.Plans.{ReadsValue}
 use Rattle.command_words.specs.Words.{ClientTask}
 use Rattle.node_files.specs.Tables.{tables_in}
-use Rattle.client_command.specs.Opening.{OpensAll, OpensBoth, LeavesLink}
+use Rattle.client_command.specs.Opening.{OpensEach, OpensBoth, LeavesLink}
 use Rattle.client_command.specs.Ending.{TellsRunEnd}
 
 -- a client plays the script that a text spells over a link and standard output; the link is closed,
@@ -43,12 +46,12 @@ pub record PlaysOpened (rows : CentreRows) (text : List ℕ) (link : LinkTold) (
   pub closes : ClosesOut mid after told
 
 -- the same, where the link and standard output are opened before
-pub record PlaysOver (task : ClientTask) (rows : CentreRows) (text : List ℕ)
+pub record PlaysAtNode (task : ClientTask) (rows : CentreRows) (text : List ℕ)
     (before after : OutsideTold) (status : Status) : Type 0 where
   pub link : LinkTold
   pub sink : SinkTold
   pub opened : OutsideTold
-  pub opens : OpensAll task.address before opened link sink
+  pub opens : OpensEach task.address before opened link sink
   pub plays : PlaysOpened rows text link sink opened after status
 
 -- one of them isn't handed out
@@ -60,9 +63,9 @@ pub record IsUnconnected (task : ClientTask) (rows : CentreRows) (text : List �
   pub unopened : OpensBoth task.address before after None
 
 -- the client of a script connects to its node
-abbrev pub Connects : ClientTask → CentreRows → List ℕ → OutsideTold → OutsideTold → Status
+abbrev pub MeetsNode : ClientTask → CentreRows → List ℕ → OutsideTold → OutsideTold → Status
     → Type 0
-Connects task rows text before after status = PlaysOver task rows text before after status
+MeetsNode task rows text before after status = PlaysAtNode task rows text before after status
     ⊎ IsUnconnected task rows text before after status
 
 -- a text is no script: its first bad line is told, and nothing is connected to
@@ -75,7 +78,7 @@ pub record RefusesScript (rows : CentreRows) (text : List ℕ) (before after : O
 -- what a text that is to be a script comes to; or memory is wanting, and nothing is touched
 abbrev pub PlaysScript : ClientTask → CentreRows → List ℕ → OutsideTold → OutsideTold → Status
     → Type 0
-PlaysScript task rows text before after status = Connects task rows text before after status
+PlaysScript task rows text before after status = MeetsNode task rows text before after status
     ⊎ (RefusesScript rows text before after status
     ⊎ ((status ≡ statuses.Memory) × (after ≡ before)))
 
@@ -102,6 +105,38 @@ GoesBehindTables task (Ok rows) before after status = ReadsScript task rows befo
 GoesBehindTables task (Err end) before after status =
     EndsUnread (codes "tables") end before after status
 
+abbrev pub link_faults : LinkTold → ℕ
+link_faults link = link.faults
+
+-- under one of the names or at the address of the command nothing stood at first, or what stood
+-- there has a fault now, where that is told
+abbrev pub HasFaultyPart : ClientTask → OutsideTold → OutsideTold → Type 0
+HasFaultyPart task before after = SomeOf (task.tables ∷ task.script ∷ [])
+    (λ name. FaultyAt source_faults (before.sources name) (after.sources name))
+    ⊎ (SomeOf (output_name ∷ [])
+    (λ name. FaultyAt sink_faults (before.sinks name) (after.sinks name))
+    ⊎ FaultyAt link_faults (before.network.links task.address)
+    (after.network.links task.address))
+
+-- no object under the names and at the address of the command has a fault, where that is told
+abbrev pub HasCleanParts : ClientTask → OutsideTold → Type 0
+HasCleanParts task before = EachOf (task.tables ∷ task.script ∷ [])
+    (λ name. CleanAt source_faults (before.sources name))
+    × EachOf (output_name ∷ []) (λ name. CleanAt sink_faults (before.sinks name))
+    × CleanAt link_faults (before.network.links task.address)
+
+-- The tables and the script were read, and the client played the script to its end and its release
+-- was answered.
+pub record IsScriptDone (task : ClientTask) (before after : OutsideTold) : Type 0 where
+  pub rows : CentreRows
+  pub text : Vec ℕ Global
+  pub mid : OutsideTold
+  pub last : OutsideTold
+  pub tables : ReadsValue tables_in task.tables TEXT_LIMIT (Ok rows) before mid
+  pub reads : ReadsInput mid last task.script TEXT_LIMIT (Ok text)
+  pub plays : PlaysAtNode task rows text.items last after statuses.Done
+  pub finished : plays.plays.end ≡ runs.Ended ends.Finished
+
 -- a run of `client`: what it leaves outside, and the status that it answers
 pub record ClientCommand (task : ClientTask) (before after : OutsideTold) (status : Status)
     : Type 0 where
@@ -113,3 +148,10 @@ pub record ClientCommand (task : ClientTask) (before after : OutsideTold) (statu
   pub words : status ≢ statuses.Usage
   -- a failure is answered only where the outside's count of faults rose
   pub outside : status ≡ statuses.Outside → Rises before.faults after.faults
+  -- and only where one of the objects outside is missing or has failed
+  pub reason : status ≡ statuses.Outside → HasFaultyPart task before after
+  -- where no object has an older fault, the count rises only where a failure is answered
+  pub exact : HasCleanParts task before → status ≢ statuses.Outside
+      → after.faults ≡ before.faults
+  -- it is called done only where the script was played to its end
+  pub done : status ≡ statuses.Done → IsScriptDone task before after

@@ -1,8 +1,6 @@
 //! How a client ended, told on standard output behind what it showed.
 ghost use Rattle.std.specs.Prelude.{◌≡◌, ◌++◌, [], ◌∷◌, List, ℕ, decimal, IfOk, string_bytes};
-ghost use Rattle.command_io.specs.Saying.{prints};
-ghost use Rattle.command_io.specs.Runs.{TellsSaid};
-ghost use Rattle.client_command.specs.Ending.{TellsRunEnd, TellsClientEnd};
+ghost use Rattle.client_command.specs.Ending.{TellsRunEnd, TellsClientEnd, TellsMade};
 ghost use Rattle.client_command.specs.Ending as own;
 
 use centre_client::ClientEnd;
@@ -43,7 +41,7 @@ fn tell_client_end<K: Sink>(alloc: Global, sink: &mut K, end: ClientEnd) -> Stat
 /// Tells a line, where there was memory for it.
 fn tell_line<K: Sink>(sink: &mut K, line: Result<String, AllocError>) -> Status
     ensures { (text : List ℕ) → IfOk line (λ line. string_bytes line ≡ text)
-        → TellsSaid (prints Status.Peer text) (K.told sink.old) (K.told sink.new) result }
+        → TellsMade text (K.told sink.old) (K.told sink.new) result }
 {
     match line {
         Ok(line) => tell(sink, Status::Peer, line.as_bytes()),
@@ -114,7 +112,7 @@ fn two_words(alloc: Global, first: &str, second: &str) -> Result<String, AllocEr
 
 /// `stray INVOKE`.
 fn stray_line(alloc: Global, invoke: u32) -> Result<String, AllocError>
-    ensures { IfOk result (λ line. string_bytes line ≡ own.stray_line invoke) }
+    ensures { IfOk result (λ line. string_bytes line ≡ own.stray_invoke_line invoke) }
 {
     format!(in alloc; "stray {invoke}\n")
 }

@@ -5,7 +5,7 @@ ghost use Rattle.bilateral.specs.Rows.{CentreRows};
 ghost use Rattle.client_service.specs.Talks.{IsTalk};
 ghost use Rattle.command_words.specs.Words.{client_seen};
 ghost use Rattle.client_command.specs.Playing.{ClientCommand, GoesBehindTables, GoesBehindScript};
-ghost use Rattle.client_command.specs.Playing.{PlaysScript, Connects, PlaysOpened};
+ghost use Rattle.client_command.specs.Playing.{PlaysScript, MeetsNode, PlaysOpened};
 
 use crate::ending::tell_run_end;
 use crate::opening::{close_link, open_both};
@@ -112,7 +112,7 @@ impl<'a, R: Wait> ClientRun<'a, R> {
     /// Connects, and has a client talk over the link.
     fn connect<O: Outside>(&self, outside: &mut O, talk: Talk) -> Status
         ensures { (rows : CentreRows) (text : List ℕ) → IsTalk rows text talk
-            → Connects (client_seen self.now.words) rows text (O.told outside.old)
+            → MeetsNode (client_seen self.now.words) rows text (O.told outside.old)
             (O.told outside.new) result }
     {
         match open_both(outside, self.words.address) {

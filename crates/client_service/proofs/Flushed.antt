@@ -20,6 +20,7 @@ use Rattle.client_service.specs.LinkOctets.{octets_given}
 use Rattle.client_service.specs.Sends.{SendsOut, IsLastRefused, IsLeftBySend, is_send_fault}
 use Rattle.client_service.specs.Runs.{MayBeUnsaid, MayBeUnshown, IsClientEnd, owes_client}
 use Rattle.client_service.specs.Playing.{RunStart, PlaysSoFar, IsFlushed, EndsOver}
+use Rattle.client_service.proofs.EndsHeard.{no_memory}
 
 -- ---- what is owed at the end
 
@@ -41,6 +42,9 @@ client_ended ends.Rejected by given e = inl e
 client_ended (ends.Checkback want got) by given e = inl e
 client_ended (ends.Stray invoke) by given e = inl e
 client_ended ends.Memory by given e = tt
+
+same_end : (end : ClientEnd) → Ended end ≡ Ended ends.Memory → end ≡ ends.Memory
+same_end end e = cc
 
 pub refused_first : {A B : Type 0} (unsaid : List ℕ) → (unsaid ≡ []) ⊎ (A × B)
     → (unsaid ≡ []) ⊎ A
@@ -70,6 +74,8 @@ ends_flushed start link sink talk end f e =
       is = client_ended end
           (client_of start.rows start.script (octets_given so.given)).state.end so.given
           (sym so.stands.end ∙ e);
+      memory = λ wanting. absurd (no_memory start.rows start.script (octets_given so.given)
+          (sym so.stands.end ∙ e ∙ ap (λ (x : ClientEnd). Some x) (same_end end wanting)));
     }
 
 -- ---- what was sent and written
@@ -121,6 +127,7 @@ module _ (start : RunStart) (link : LinkTold) (sink : SinkTold) (old : Talk)
       shown = so.shown;
       all_shown = tt;
       is = tt;
+      memory = λ e. absurd cc;
     }
 
     -- the sink has failed
@@ -145,6 +152,7 @@ module _ (start : RunStart) (link : LinkTold) (sink : SinkTold) (old : Talk)
               ∙ sym (append_assoc so.lines (take p.0 lines) (drop p.0 lines));
           all_shown = tt;
           is = tt;
+          memory = λ e. absurd cc;
         }
 
     -- neither has failed

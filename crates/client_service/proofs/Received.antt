@@ -8,7 +8,8 @@ use Rattle.std.proofs.lemmas.List.{append-nil}
 use Rattle.std.proofs.lemmas.List.Elements.{All-push}
 use Rattle.outside.specs.Sink.{SinkTold}
 use Rattle.outside_links.specs.declared.link.Recv.{Recv}
-use Rattle.outside_links.specs.LinkAnswers.{LinkAnswer, LinkAnswers, ended}
+use Rattle.outside_links.specs.LinkAnswers.{Received, piece as given_piece, LinkAnswer}
+use Rattle.outside_links.specs.LinkAnswers.{LinkAnswers, ended}
 use Rattle.outside_links.specs.LinkAnswers.{received_of, next_answer, with_answer}
 use Rattle.outside_links.specs.Links.{LinkTold, ReceivesPiece, is_failed_recv}
 use Rattle.link_service.specs.GivenItems.{MayGoOn}
@@ -40,6 +41,9 @@ peer_ended : (o : Option ClientEnd) (given : List LinkAnswer) → IsEndGiven giv
     → IsClientEnd (unwrap_or o ends.PeerEnd) o given
 peer_ended None given e = inr (refl, refl, e)
 peer_ended (Some end) given e = client_ended end (Some end) given refl
+
+by_peer : {A : Type 0} (end : ClientEnd) → end ≡ ends.PeerEnd → Ended end ≡ Ended ends.Memory → A
+by_peer {A} end is wanting = absurd cc
 
 module _ (start : RunStart) (link : LinkTold) (sink : SinkTold) (talk : Talk)
     (f : IsFlushed start link sink talk) (lasts : talk.client.calling.end ≡ None)
@@ -145,7 +149,14 @@ module _ (start : RunStart) (link : LinkTold) (sink : SinkTold) (talk : Talk)
     shown = same_shown e;
     all_shown = tt;
     is = tt;
+    memory = λ wanting. absurd cc;
   }
+
+  -- what waits when recv is called waits still, where a send took nothing
+  unsaid_after : (talk.out.items ≡ []) ⊎ IsLastRefused after
+  unsaid_after = subst (λ (o : Option (Option Bool)). (talk.out.items ≡ [])
+      ⊎ IfSome o (λ refused. refused ≡ Some true)) (sym r.refused)
+      (refused_first talk.out.items f.sent)
 
   -- nothing more comes
   pub link_ended : (end : ClientEnd) → received_of recv buf ≡ ended → came ≡ []
@@ -166,10 +177,7 @@ module _ (start : RunStart) (link : LinkTold) (sink : SinkTold) (talk : Talk)
         timely = timely_recv;
         unsaid = talk.out.items;
         said = same_said e;
-        all_said = said_owed (owes_client end) talk.out.items after
-            (subst (λ (o : Option (Option Bool)). (talk.out.items ≡ [])
-            ⊎ IfSome o (λ refused. refused ≡ Some true)) (sym r.refused)
-            (refused_first talk.out.items f.sent));
+        all_said = said_owed (owes_client end) talk.out.items after unsaid_after;
         unshown = talk.shown.items;
         shown = same_shown e;
         all_shown = shown_owed (owes_client end) talk.shown.items f.written;
@@ -177,14 +185,16 @@ module _ (start : RunStart) (link : LinkTold) (sink : SinkTold) (talk : Talk)
             (ap (λ (o : Option ClientEnd). unwrap_or o ends.PeerEnd) (sym by_is) ∙ sym is)
             (peer_ended by given
             (record { before = f.so_far.given; last = answer; is = refl; ends = gone }));
+        memory = λ wanting. by_peer end
+            (is ∙ ap (λ (o : Option ClientEnd). unwrap_or o ends.PeerEnd) lasts) wanting;
       }
 
   -- ---- a piece came
 
-  module _ (piece : List ℕ) (piece_is : came ≡ piece) (may : MayGoOn (received_of recv buf))
-      (fine : is_failed_recv recv ≡ false) where
+  module _ (piece : List ℕ) (is_piece : received_of recv buf ≡ given_piece piece)
+      (may : MayGoOn (received_of recv buf)) (fine : is_failed_recv recv ≡ false) where
     with_piece : octets_given given ≡ octets ++ piece
-    with_piece = octets_are ∙ ap (λ (l : List ℕ). octets ++ l) piece_is
+    with_piece = octets_are ∙ ap (λ (r : Received). octets ++ received_octets r) is_piece
 
     taken_on : (new : Talk) → TakesOn piece talk new
         → TakesPiece start.rows start.script octets piece talk.out.items new.out.items
@@ -246,6 +256,17 @@ module _ (start : RunStart) (link : LinkTold) (sink : SinkTold) (talk : Talk)
               ∙ append_assoc so.lines talk.shown.items g.shown;
           all_shown = tt;
           is = tt;
+          memory = λ wanting. record {
+            before = so.given;
+            last = answer;
+            octets = piece;
+            is = refl;
+            came = is_piece;
+            unsaid = talk.out.items;
+            said = so.said;
+            all_said = unsaid_after;
+            shown = so.shown ∙ ap (λ (l : List ℕ). so.lines ++ l) f.written ∙ append-nil so.lines;
+          };
         }
 
     -- what came of it

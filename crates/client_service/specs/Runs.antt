@@ -2,7 +2,7 @@
 use Rattle.std.specs.Prelude.{◌≡◌, ℕ, ◌+◌, Bool, true, false, List, [], ◌∷◌, ◌++◌, ◌⊎◌, length}
 use Rattle.std.specs.Prelude.{Option, Some, None}
 use Rattle.outside.specs.Sink.{SinkTold, Appends}
-use Rattle.outside_links.specs.LinkAnswers.{LinkAnswer, LinkAnswers, ended}
+use Rattle.outside_links.specs.LinkAnswers.{LinkAnswer, LinkAnswers, piece, ended}
 use Rattle.outside_links.specs.Links.{LinkTold}
 use Rattle.link_service.specs.GivenItems.{MayGoOn}
 use Rattle.link_service.specs.LinkUses.{UsesLink}
@@ -75,7 +75,8 @@ pub record IsEndGiven (given : List LinkAnswer) : Type 0 where
   pub is : given ≡ before ++ last ∷ []
   pub ends : last.received ≡ ended
 
--- the client has ended so by what was received, or it hadn't ended where nothing more came
+-- the client has ended so by what was received, or it hadn't ended where nothing more came; want of
+-- memory is no end that is received
 abbrev pub IsClientEnd : ClientEnd → Option ClientEnd → List LinkAnswer → Type 0
 IsClientEnd ends.Memory by given = Unit {0}
 IsClientEnd end by given =
@@ -84,6 +85,20 @@ IsClientEnd end by given =
 abbrev pub IsRunEnd : RunEnd → Option ClientEnd → List LinkAnswer → Type 0
 IsRunEnd (runs.Ended end) by given = IsClientEnd end by given
 IsRunEnd end by given = Unit {0}
+
+-- Memory was wanting for the piece that came last, which is lost: what was taken and shown is all
+-- that the client says and shows over the octets before it.
+pub record IsPieceLost (rows : CentreRows) (script : Script) (given : List LinkAnswer)
+    (taken lines : List ℕ) (gone : LinkTold) : Type 0 where
+  pub before : List LinkAnswer
+  pub last : LinkAnswer
+  pub octets : List ℕ
+  pub is : given ≡ before ++ last ∷ []
+  pub came : last.received ≡ piece octets
+  pub unsaid : List ℕ
+  pub said : (client_of rows script (octets_given before)).said ≡ taken ++ unsaid
+  pub all_said : MayBeUnsaid true unsaid gone
+  pub shown : (client_of rows script (octets_given before)).shown ≡ lines
 
 -- ---- all of it
 
@@ -108,6 +123,8 @@ pub record PlaysOver (rows : CentreRows) (script : Script) (link gone : LinkTold
   pub shown : (client_of rows script (octets_given given)).shown ≡ lines ++ unshown
   pub all_shown : MayBeUnshown (owes_all end) unshown
   pub is : IsRunEnd end (client_of rows script (octets_given given)).state.end given
+  -- by want of memory it ends only at a piece that it has received
+  pub memory : end ≡ runs.Ended ends.Memory → IsPieceLost rows script given taken lines gone
 
 -- the same of the script that a text spells
 pub record PlaysText (rows : CentreRows) (text : List ℕ) (link gone : LinkTold)

@@ -2,7 +2,8 @@ use Rattle.std.proofs.Common.{◌≡◌, List, ℕ, ap₂, sym, subst, IfOk, str
 use Rattle.std.specs.Int.{w64}
 use Rattle.std.specs.Int.RustNames.{FitsSigned}
 use Rattle.std.proofs.lemmas.Int.{to_z-of_z}
-use Rattle.client_command.specs.Ending.{TellsClientEnd, checkback_line, refused_line, stray_line}
+use Rattle.client_command.specs.Ending.{TellsClientEnd, checkback_line, refused_line}
+use Rattle.client_command.specs.Ending.{stray_invoke_line}
 use Rattle.client_command.proofs.ending.tell_client_end.Goals as goal
 
 pub returns-in-Refused : goal.returns-in-Refused
@@ -30,4 +31,4 @@ returns-in-Stray g c =
     let tell = c.tell_line-in-Stray in
     subst (λ end. TellsClientEnd end (g.K.Sink.told c.args.sink.now)
     (g.K.Sink.told tell.new.sink) tell.result) (sym c.in-Stray.is)
-    (tell.ensures (stray_line c.in-Stray.invoke) c.stray_line.ensures)
+    (tell.ensures (stray_invoke_line c.in-Stray.invoke) c.stray_line.ensures)

@@ -1,5 +1,7 @@
 use Rattle.command_words.specs.Words.{client_seen}
-use Rattle.client_command.proofs.Commands.{command_rises, command_unasked}
+use Rattle.client_command.proofs.Commands.{command_rises, command_unasked, command_reason}
+use Rattle.client_command.proofs.Commands.{command_done}
+use Rattle.client_command.proofs.Spared.{command_same}
 use Rattle.client_command.proofs.playing.run_client_command.Goals as goal
 
 pub returns : goal.returns
@@ -13,6 +15,18 @@ returns g c =
           (g.O.Outside.told read.new.outside) (g.O.Outside.told c.play_read.new.outside)
           c.play_read.result c.play_read.ensures;
       outside = command_rises (client_seen c.args.words) read.result
+          (g.O.Outside.told c.args.outside.now) (g.O.Outside.told read.new.outside)
+          (g.O.Outside.told c.play_read.new.outside) c.play_read.result read.ensures
+          c.play_read.ensures;
+      reason = command_reason (client_seen c.args.words) read.result
+          (g.O.Outside.told c.args.outside.now) (g.O.Outside.told read.new.outside)
+          (g.O.Outside.told c.play_read.new.outside) c.play_read.result read.ensures
+          c.play_read.ensures;
+      exact = command_same (client_seen c.args.words) read.result
+          (g.O.Outside.told c.args.outside.now) (g.O.Outside.told read.new.outside)
+          (g.O.Outside.told c.play_read.new.outside) c.play_read.result read.ensures
+          c.play_read.ensures;
+      done = command_done (client_seen c.args.words) read.result
           (g.O.Outside.told c.args.outside.now) (g.O.Outside.told read.new.outside)
           (g.O.Outside.told c.play_read.new.outside) c.play_read.result read.ensures
           c.play_read.ensures;
