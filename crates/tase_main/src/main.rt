@@ -2,6 +2,7 @@
 //! words, and ends with its status.
 #![tactic(auto)]
 
+mod ending;
 mod starting;
 #[cfg(test)]
 mod tests;

@@ -4,6 +4,7 @@ ghost use Rattle.std.specs.Vec.Iter.{into_iter_items};
 ghost use Rattle.std.specs.Process.{exit_status};
 ghost use Rattle.tase_main.specs.Starting.{IsWordsFrom, IsStart, Starts, surroundings_of};
 
+use crate::ending::{is_of_connections, tell_end};
 use command_io::Status;
 use job_threads::ThreadSpawner;
 use outside_links::Listener;
@@ -12,14 +13,16 @@ use server_jobs::NodeJob;
 use std::alloc::{AllocError, Global};
 use std::env::Args;
 use std::io;
+use std::io::Eprint;
 use std::process::ExitCode;
 use std::sync::Wait;
 use std::thread::Threads;
+use std::time::Clock;
 use tase_tool::run;
 
 /// Runs the words that the system gives, once, and answers the exit status that goes with how the
-/// run ended.
-pub(crate) fn start<R: Threads + Wait + Copy + Send + 'static, O: Outside>(
+/// run ended. An operator is told how a server or a client ended.
+pub(crate) fn start<R: Threads + Wait + Eprint + Clock + Copy + Send + 'static, O: Outside>(
     rt: &R,
     alloc: Global,
     given: io::Result<Args>,
@@ -35,7 +38,9 @@ where
         (surroundings_of (O.told outside.new) spawner.new.told.faults) (exit_status result) }
 {
     let words = words_from(alloc, given);
+    let is_told = is_of_connections(&words);
     let status = run_words(rt, alloc, words, outside, spawner);
+    tell_end(*rt, is_told, status);
     ExitCode::from(status)
 }
 
