@@ -1,18 +1,25 @@
 //! Whether a case comes out as it must.
 
-use crate::cases::{Case, Wanted, subject};
 use crate::cutting::{Cut, Stream, capture_of, cut_text, joined};
-use crate::playing::{Played, play, play_with};
+use crate::faulting::{devices_of, is_answered};
+use crate::playing::{Change, Played, play};
 use capture_text::read_capture;
+use case_text::{Case, Device, Failing, Wanted, subject};
 use std::alloc::{AllocError, Global};
 use std::sync::Wait;
 use std::thread::Threads;
+use std::time;
+
+// So many calls of a device are failed at most, one in a play.
+const MOST_FAILING: u64 = 16;
 
 /// How a case was played when it failed.
-#[derive(Clone, Copy)]
+#[derive(Drop)]
 pub(crate) enum Manner {
     AsItStands,
     Cut(Cut),
+    /// With this call failing too.
+    Failing(Failing),
 }
 
 /// What a case came to.
@@ -81,14 +88,15 @@ fn whole_text(alloc: Global, case: &Case, stream: Stream) -> Result<Option<Vec<u
 }
 
 // Plays a case with its stream cut.
-fn judge_cut<R: Threads + Wait + Copy + Send + 'static>(
+fn judge_cut<R: Threads + Wait + time::Clock + Copy + Send + 'static>(
     rt: &R,
     alloc: Global,
     case: &Case,
     text: Vec<u8>,
     cut: Cut,
 ) -> Result<Verdict, AllocError> {
-    let played = play_with(rt, alloc, case, subject(&case.words), text)?;
+    let change = Change::Text(subject(&case.words), &text);
+    let played = play(rt, alloc, case, change)?;
     let is_same = is_wanted_joined(alloc, &case.wanted, &played.shown)?;
     if is_same && played.status == case.status {
         return Ok(Verdict::Passed);
@@ -97,7 +105,7 @@ fn judge_cut<R: Threads + Wait + Copy + Send + 'static>(
 }
 
 // Plays a case with this stream cut in each way, up to the first that fails.
-fn judge_cuts<R: Threads + Wait + Copy + Send + 'static>(
+fn judge_cuts<R: Threads + Wait + time::Clock + Copy + Send + 'static>(
     rt: &R,
     alloc: Global,
     case: &Case,
@@ -120,7 +128,7 @@ fn judge_cuts<R: Threads + Wait + Copy + Send + 'static>(
     Ok(Verdict::Passed)
 }
 
-fn judge_each_cut<R: Threads + Wait + Copy + Send + 'static>(
+fn judge_each_cut<R: Threads + Wait + time::Clock + Copy + Send + 'static>(
     rt: &R,
     alloc: Global,
     case: &Case,
@@ -134,18 +142,92 @@ fn judge_each_cut<R: Threads + Wait + Copy + Send + 'static>(
     }
 }
 
-/// Plays a case, and where it says so with its streams cut.
-pub(crate) fn judge<R: Threads + Wait + Copy + Send + 'static>(
+// Whether a case came out as it must where no call fails that it doesn't say.
+fn is_right(case: &Case, played: &Played) -> bool {
+    played.status == case.status
+        && is_wanted(&case.wanted, &played.shown)
+        && are_written(case, played)
+        && played.told.is_whole
+        && played.have_met
+}
+
+// Plays a case with one call more failing. None where that call didn't come.
+fn judge_failing<R: Threads + Wait + time::Clock + Copy + Send + 'static>(
+    rt: &R,
+    alloc: Global,
+    case: &Case,
+    failing: Failing,
+) -> Result<Option<Verdict>, AllocError> {
+    let played = play(rt, alloc, case, Change::Failing(&failing))?;
+    let has_come = played.faults > 0 || played.told.faults > 0;
+    let is_right = if has_come {
+        is_answered(case, &failing, &played)
+    } else {
+        is_right(case, &played)
+    };
+    if !is_right {
+        return Ok(Some(Verdict::Failed(Manner::Failing(failing), played)));
+    }
+    Ok(if has_come {
+        Some(Verdict::Passed)
+    } else {
+        None
+    })
+}
+
+// Plays a case with the calls of one device failing in turn, up to the first that doesn't come.
+fn judge_device<R: Threads + Wait + time::Clock + Copy + Send + 'static>(
+    rt: &R,
+    alloc: Global,
+    case: &Case,
+    device: Device,
+    name: &str,
+) -> Result<Verdict, AllocError> {
+    for number in 0..MOST_FAILING {
+        let failing = Failing {
+            device,
+            name: String::from_str(alloc, name)?,
+            number,
+        };
+        match judge_failing(rt, alloc, case, failing)? {
+            None => return Ok(Verdict::Passed),
+            Some(Verdict::Passed) => {}
+            Some(verdict) => return Ok(verdict),
+        }
+    }
+    Ok(Verdict::Passed)
+}
+
+// Plays a case with each call of each device failing in turn.
+fn judge_faults<R: Threads + Wait + time::Clock + Copy + Send + 'static>(
     rt: &R,
     alloc: Global,
     case: &Case,
 ) -> Result<Verdict, AllocError> {
-    let played = play(rt, alloc, case)?;
-    let is_right = is_wanted(&case.wanted, &played.shown)
-        && are_written(case, &played)
-        && played.is_told;
-    if played.status != case.status || !is_right {
+    for (device, name) in devices_of(alloc, case)? {
+        let verdict = judge_device(rt, alloc, case, device, name)?;
+        if !matches!(&verdict, Verdict::Passed) {
+            return Ok(verdict);
+        }
+    }
+    Ok(Verdict::Passed)
+}
+
+/// Plays a case, and where it says so with its streams cut, or with each call failing in turn.
+pub(crate) fn judge<R: Threads + Wait + time::Clock + Copy + Send + 'static>(
+    rt: &R,
+    alloc: Global,
+    case: &Case,
+) -> Result<Verdict, AllocError> {
+    let played = play(rt, alloc, case, Change::Nothing)?;
+    if !is_right(case, &played) {
         return Ok(Verdict::Failed(Manner::AsItStands, played));
+    }
+    if case.is_faulted {
+        let verdict = judge_faults(rt, alloc, case)?;
+        if !matches!(&verdict, Verdict::Passed) {
+            return Ok(verdict);
+        }
     }
     if case.is_cut {
         return judge_each_cut(rt, alloc, case);

@@ -3,25 +3,22 @@
 //! many failed. Its status is 0 only where none failed and one passed at least.
 #![tactic(auto)]
 
-mod cases;
 mod cutting;
-mod entries;
+mod faulting;
 mod judging;
-mod network;
 mod playing;
-mod reading;
 mod showing;
 mod tally;
 
-use cases::{BadLine, Case};
+use case_text::{BadLine, Case, Sheet, read_cases};
 use judging::{Verdict, judge};
-use reading::{Sheet, read_cases};
 use showing::{bad_line, failure_line};
 use std::alloc::Global;
 use std::io::{self, Write};
 use std::process::ExitCode;
 use std::sync::Wait;
 use std::thread::Threads;
+use std::time;
 use tally::Tally;
 
 fn tell_bad_lines<W: Write>(
@@ -37,7 +34,7 @@ fn tell_bad_lines<W: Write>(
     Ok(())
 }
 
-fn play_case<R: Threads + Wait + Copy + Send + 'static, W: Write>(
+fn play_case<R: Threads + Wait + time::Clock + Copy + Send + 'static, W: Write>(
     rt: &R,
     out: &mut W,
     alloc: Global,
@@ -49,7 +46,7 @@ fn play_case<R: Threads + Wait + Copy + Send + 'static, W: Write>(
     out.write_all(&failure_line(alloc, case, &verdict)?)
 }
 
-fn play_sheet<R: Threads + Wait + Copy + Send + 'static, W: Write>(
+fn play_sheet<R: Threads + Wait + time::Clock + Copy + Send + 'static, W: Write>(
     rt: &R,
     out: &mut W,
     alloc: Global,

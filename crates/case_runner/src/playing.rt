@@ -1,39 +1,57 @@
 //! How a case is played: over an outside in memory.
 
-use crate::cases::{Case, FailedRead, Input, Wanted};
+use case_text::{Case, Device, Failing, Failures, Input, Listening, Node, Wanted};
+use command_io::Status;
+use held_outside::{HeldOutside, Plan};
 use job_threads::ThreadSpawner;
 use outside::{ByteSink, TextSource};
-use outside_names::MemoryOutside;
+use outside_links::{Link, Listener, ScriptLink, ScriptListener};
+use outside_names::{MemoryOutside, Outside};
 use std::alloc::{AllocError, Global};
 use std::sync::Wait;
 use std::thread::Threads;
+use std::time;
 use tase_tool::run;
 
-/// How a command ended, what it printed, and what each file took that the case names.
+/// What is otherwise in a play than the case says.
+#[derive(Clone, Copy)]
+pub(crate) enum Change<'a> {
+    /// Nothing.
+    Nothing,
+    /// The input of this name has another text.
+    Text(&'a str, &'a [u8]),
+    /// One call more fails.
+    Failing(&'a Failing),
+}
+
+/// What the nodes of a case took, and the faults of the links that were given.
+#[derive(Clone, Copy)]
+pub(crate) struct Told {
+    /// Whether each took what it must.
+    pub(crate) is_whole: bool,
+    /// Whether each took a front part of what it must.
+    pub(crate) is_front: bool,
+    /// How many faults there were of links that a listener gave.
+    pub(crate) faults: u64,
+}
+
+/// How a command ended, what it printed, what each file took that the case names, what its nodes
+/// took, and the faults outside and of starts.
 #[derive(Drop)]
 pub(crate) struct Played {
     pub(crate) status: u64,
     pub(crate) shown: Vec<u8>,
     pub(crate) files: Vec<Vec<u8>>,
-    /// Whether each node took what it must.
-    pub(crate) is_told: bool,
+    pub(crate) told: Told,
+    /// Whether all links met that must.
+    pub(crate) have_met: bool,
+    pub(crate) faults: u64,
 }
 
 // The most octets of room, and what there is of it beyond what is wanted.
 const MOST_ROOM: u64 = 268_435_456;
 
 const MORE_ROOM: u64 = 65_536;
-
-// The numbers of an input's reads that fail.
-fn failed_reads(alloc: Global, failed: &[FailedRead], name: &str) -> Result<Vec<u64>, AllocError> {
-    let mut numbers = Vec::new(alloc);
-    for read in failed {
-        if read.name.as_str() == name {
-            numbers.push(read.number)?;
-        }
-    }
-    Ok(numbers)
-}
 
 // The room of standard output. Where none is said it is more than a case can want that passes: in
 // pieces what is shown may take a line for each of its octets.
@@ -50,49 +68,94 @@ fn room_of(case: &Case) -> usize {
     room.min(MOST_ROOM) as usize
 }
 
+// The calls that fail in a play of a case with this change.
+fn failures_of<'a>(case: &'a Case, change: Change<'a>) -> Failures<'a> {
+    let more = match change {
+        Change::Failing(failing) => Some(failing),
+        Change::Nothing | Change::Text(_, _) => None,
+    };
+    Failures {
+        said: &case.failing,
+        more,
+    }
+}
+
 fn put_text(
     alloc: Global,
     outside: &mut MemoryOutside,
-    case: &Case,
+    failures: Failures<'_>,
     name: &str,
     text: Vec<u8>,
 ) -> Result<(), AllocError> {
-    let fails = failed_reads(alloc, &case.failed_reads, name)?;
+    let fails = failures.numbers(alloc, Device::Read, name)?;
     outside.put_in(alloc, name, TextSource::new(text, fails))
 }
 
 fn put_inputs(
     alloc: Global,
     outside: &mut MemoryOutside,
-    case: &Case,
+    failures: Failures<'_>,
     inputs: &[Input],
 ) -> Result<(), AllocError> {
     for input in inputs {
-        put_text(alloc, outside, case, &input.name, input.octets(alloc)?)?;
+        put_text(alloc, outside, failures, &input.name, input.octets(alloc)?)?;
     }
     Ok(())
 }
 
+fn put_sink(
+    alloc: Global,
+    outside: &mut MemoryOutside,
+    failures: Failures<'_>,
+    name: &str,
+    room: usize,
+) -> Result<(), AllocError> {
+    let fails = failures.numbers(alloc, Device::Write, name)?;
+    let sink = ByteSink::new(alloc, room, fails)?;
+    outside.put_out(alloc, name, sink)
+}
+
 // What stands outside of a case.
-fn outside_of(alloc: Global, case: &Case) -> Result<MemoryOutside, AllocError> {
+fn outside_of(
+    alloc: Global,
+    case: &Case,
+    failures: Failures<'_>,
+) -> Result<MemoryOutside, AllocError> {
     let mut outside = MemoryOutside::new(alloc)?;
-    put_inputs(alloc, &mut outside, case, &case.given)?;
-    put_inputs(alloc, &mut outside, case, &case.own)?;
-    let fails = Vec::from_slice(alloc, &case.failed_writes)?;
-    let output = ByteSink::new(alloc, room_of(case), fails)?;
-    outside.put_out(alloc, "-", output)?;
+    put_inputs(alloc, &mut outside, failures, &case.given)?;
+    put_inputs(alloc, &mut outside, failures, &case.own)?;
+    put_sink(alloc, &mut outside, failures, "-", room_of(case))?;
     for file in &case.files {
-        let fails = Vec::from_slice(alloc, &file.failed_writes)?;
         let wanted = match &file.octets {
             Some(octets) => octets.len() as u64,
             None => MOST_ROOM / 16,
         };
         let room = wanted.saturating_add(MORE_ROOM).min(MOST_ROOM);
-        let sink = ByteSink::new(alloc, room as usize, fails)?;
-        outside.put_out(alloc, file.name.as_str(), sink)?;
+        put_sink(
+            alloc,
+            &mut outside,
+            failures,
+            file.name.as_str(),
+            room as usize,
+        )?;
     }
-    case.network.put(alloc, &mut outside)?;
+    case.network.put(alloc, &mut outside, failures)?;
     Ok(outside)
+}
+
+// What standard input of a case waits for: that its nodes were served, and that each call has come
+// that is to fail.
+fn plan_of(alloc: Global, case: &Case, failures: Failures<'_>) -> Result<Plan, AllocError> {
+    let mut links = 0u64;
+    for listening in &case.network.listens {
+        links = links.saturating_add(listening.nodes.len() as u64);
+    }
+    Ok(Plan {
+        links,
+        accepts: failures.calls(alloc, Device::Accept)?,
+        readings: failures.calls(alloc, Device::Clock)?,
+        meeting: case.network.meeting,
+    })
 }
 
 // What the sink of this name took.
@@ -116,45 +179,136 @@ fn files_of(
     Ok(files)
 }
 
-// Runs the words of a case.
-fn run_words<R: Threads + Wait + Copy + Send + 'static>(
-    rt: &R,
+impl Told {
+    // Adds what a node took over its link.
+    fn add(&mut self, node: &Node, link: Option<&ScriptLink>) {
+        let taken = match link {
+            Some(link) => link.taken(),
+            None => &[],
+        };
+        if let Some(octets) = &node.takes {
+            self.is_whole = self.is_whole && link.is_some() && octets.as_slice() == taken;
+            self.is_front = self.is_front && octets.as_slice().starts_with(taken);
+        }
+    }
+
+    // Adds what the nodes took that connected to an address.
+    fn add_listening(&mut self, listening: &Listening, listener: Option<&ScriptListener>) {
+        for node in &listening.nodes {
+            let link = match listener {
+                Some(listener) => retired_named(listener, node.name.as_str()),
+                None => None,
+            };
+            self.add(node, link);
+            if let Some(link) = link {
+                self.faults = self.faults.saturating_add(link.faults());
+            }
+        }
+    }
+}
+
+// The link of this name among those that were retired.
+fn retired_named<'a>(listener: &'a ScriptListener, name: &str) -> Option<&'a ScriptLink> {
+    for link in listener.retired() {
+        if link.name() == name {
+            return Some(link);
+        }
+    }
+    None
+}
+
+// What the nodes of a case took.
+fn told_of(case: &Case, outside: &MemoryOutside) -> Told {
+    let mut told = Told {
+        is_whole: true,
+        is_front: true,
+        faults: 0,
+    };
+    for node in &case.network.nodes {
+        told.add(node, outside.link(node.name.as_str()));
+    }
+    for listening in &case.network.listens {
+        told.add_listening(listening, outside.listener(listening.address.as_str()));
+    }
+    told
+}
+
+// What a case came to that left this outside, by how its command ended.
+fn played_of(
     alloc: Global,
     case: &Case,
-    outside: &mut MemoryOutside,
+    inside: &MemoryOutside,
+    ended: Ended,
 ) -> Result<Played, AllocError> {
-    let refused = Vec::from_slice(alloc, &case.refused_starts)?;
-    let mut spawner = ThreadSpawner::new(alloc, refused);
-    let status = run(rt, alloc, &case.words, outside, &mut spawner);
-    let shown = Vec::from_slice(alloc, written(outside, "-"))?;
-    let files = files_of(alloc, case, outside)?;
+    let shown = Vec::from_slice(alloc, written(inside, "-"))?;
+    let files = files_of(alloc, case, inside)?;
     Ok(Played {
-        status: u64::from(status.code()),
+        status: u64::from(ended.status.code()),
         shown,
         files,
-        is_told: case.network.is_told(outside),
+        told: told_of(case, inside),
+        have_met: ended.have_met,
+        faults: inside.faults().saturating_add(ended.refusals),
     })
 }
 
-/// Plays a case as it stands.
-pub(crate) fn play<R: Threads + Wait + Copy + Send + 'static>(
-    rt: &R,
-    alloc: Global,
-    case: &Case,
-) -> Result<Played, AllocError> {
-    let mut outside = outside_of(alloc, case)?;
-    run_words(rt, alloc, case, &mut outside)
+// How a command ended, whether its links met, and how many starts were refused.
+#[derive(Clone, Copy)]
+struct Ended {
+    status: Status,
+    have_met: bool,
+    refusals: u64,
 }
 
-/// Plays a case with another text under a name.
-pub(crate) fn play_with<R: Threads + Wait + Copy + Send + 'static>(
+// Runs the words of a case, whose starts with these numbers are refused.
+fn run_words<R: Threads + Wait + time::Clock + Copy + Send + 'static, O: Outside>(
+    rt: &R,
+    alloc: Global,
+    words: &[String],
+    outside: &mut HeldOutside<O, R>,
+    refused: Vec<u64>,
+) -> Ended
+where
+    <O::Listener as Listener>::Link: Send + 'static,
+    O::In: Send + 'static,
+    O::Clock: Send + 'static,
+{
+    let mut spawner = ThreadSpawner::new(alloc, refused);
+    let status = run(rt, alloc, words, outside, &mut spawner);
+    Ended {
+        status,
+        have_met: outside.have_met(),
+        refusals: spawner.faults(),
+    }
+}
+
+// What stands outside of a case with this change.
+fn changed_outside_of(
+    alloc: Global,
+    case: &Case,
+    change: Change<'_>,
+) -> Result<MemoryOutside, AllocError> {
+    let failures = failures_of(case, change);
+    let mut outside = outside_of(alloc, case, failures)?;
+    if let Change::Text(name, text) = change {
+        let text = Vec::from_slice(alloc, text)?;
+        put_text(alloc, &mut outside, failures, name, text)?;
+    }
+    Ok(outside)
+}
+
+/// Plays a case with this change.
+pub(crate) fn play<R: Threads + Wait + time::Clock + Copy + Send + 'static>(
     rt: &R,
     alloc: Global,
     case: &Case,
-    name: &str,
-    text: Vec<u8>,
+    change: Change<'_>,
 ) -> Result<Played, AllocError> {
-    let mut outside = outside_of(alloc, case)?;
-    put_text(alloc, &mut outside, case, name, text)?;
-    run_words(rt, alloc, case, &mut outside)
+    let failures = failures_of(case, change);
+    let plan = plan_of(alloc, case, failures)?;
+    let refused = failures.numbers(alloc, Device::Start, "")?;
+    let inside = changed_outside_of(alloc, case, change)?;
+    let mut outside = HeldOutside::new(alloc, *rt, inside, plan)?;
+    let ended = run_words(rt, alloc, &case.words, &mut outside, refused);
+    played_of(alloc, case, outside.outside(), ended)
 }

@@ -1,9 +1,9 @@
 //! What is printed of a case that failed.
 
-use crate::cases::{BadLine, Case, Wanted};
 use crate::cutting::Cut;
 use crate::judging::{Manner, Verdict};
 use crate::playing::Played;
+use case_text::{BadLine, Case, Device, Failing, Wanted};
 use std::alloc::{AllocError, Global};
 
 fn push(out: &mut Vec<u8>, text: &str) -> Result<(), AllocError> {
@@ -89,8 +89,11 @@ fn push_played(
             )?;
         }
     }
-    if !played.is_told {
+    if !played.told.is_whole {
         push(out, "; a node took other octets")?;
+    }
+    if !played.have_met {
+        push(out, "; the links didn't meet")?;
     }
     push_files(alloc, out, case, played)
 }
@@ -115,11 +118,33 @@ fn push_files(
     Ok(())
 }
 
-fn push_manner(alloc: Global, out: &mut Vec<u8>, manner: Manner) -> Result<(), AllocError> {
+// The line by which a case says that this call fails.
+fn push_failing(alloc: Global, out: &mut Vec<u8>, failing: &Failing) -> Result<(), AllocError> {
+    let word = match failing.device {
+        Device::Read => "read",
+        Device::Write => "write",
+        Device::Recv => "recv",
+        Device::Send => "send",
+        Device::Accept => "accept",
+        Device::Clock => "clock",
+        Device::Start => "start",
+    };
+    let (name, number) = (failing.name.as_str(), failing.number);
+    push(
+        out,
+        &format!(in alloc; "with call {number} of {word} {name} failing: ")?,
+    )
+}
+
+fn push_manner(alloc: Global, out: &mut Vec<u8>, manner: &Manner) -> Result<(), AllocError> {
     match manner {
         Manner::AsItStands => Ok(()),
         Manner::Cut(Cut::Everywhere) => push(out, "cut everywhere: "),
-        Manner::Cut(Cut::At(place)) => push(out, &format!(in alloc; "cut at place {place}: ")?),
+        Manner::Cut(Cut::At(place)) => {
+            let place = *place;
+            push(out, &format!(in alloc; "cut at place {place}: ")?)
+        }
+        Manner::Failing(failing) => push_failing(alloc, out, failing),
     }
 }
 
@@ -140,7 +165,7 @@ pub(crate) fn failure_line(
         }
         Verdict::Failed(manner, played) => {
             push(&mut out, &front)?;
-            push_manner(alloc, &mut out, *manner)?;
+            push_manner(alloc, &mut out, manner)?;
             push_played(alloc, &mut out, case, played)?;
         }
     }

@@ -1,0 +1,6 @@
+use Rattle.outside_links.specs.ScriptStates.{AllNewLinks}
+use Rattle.case_text.proofs.network.Listening.links_of.Given as goal
+
+-- the links so far are new
+abbrev pub invariant-loop-node : goal.invariant-loop-node
+invariant-loop-node l = AllNewLinks l.links.items
