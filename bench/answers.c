@@ -1,5 +1,6 @@
 /* The bare counterpart of a server of TASE.2, to measure it by: one thread and epoll. It answers the n-th message of a connection with fixed octets: a connect of the
  * transport, an association request, and from then on each read with the same reply. It looks at lengths alone. Usage: answers PORT */
+#define _GNU_SOURCE
 #include <arpa/inet.h>
 #include <errno.h>
 #include <fcntl.h>
