@@ -12,7 +12,7 @@ use Rattle.std.proofs.lemmas.List.{length_push}
 use Rattle.std.proofs.lemmas.List.Folds.{list_any-append}
 use Rattle.plain_text.specs.Words.{is_word, is_spaced, words_in}
 use Rattle.plain_text.specs.Numbers.{is_number, number_in}
-use Rattle.table_words.specs.Words.{is_name, is_plain_name, is_identifier}
+use Rattle.bilateral.specs.Words.Words.{is_name, is_plain_name, is_identifier}
 use Rattle.std.specs.Str.Lines.{lines, lines_of_parts, strip_carriage_return}
 use Rattle.std.proofs.lemmas.List.Splits.{length-slice_split}
 use Rattle.bilateral.specs.Writing.{spaced, is_solid}

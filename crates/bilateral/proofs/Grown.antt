@@ -28,7 +28,7 @@ use Rattle.bilateral.specs.declared.rows.TheConstants.{SLOT_LIMIT, SET_LIMIT, PE
 use Rattle.bilateral.specs.declared.rows.TheConstants.{VARIANT_LIMIT}
 use Rattle.bilateral.specs.declared.rows.TheConstants.{PENDING_LIMIT}
 use Rattle.tase_points.specs.Layouts.{IsLayout}
-use Rattle.table_words.specs.Words.{is_name, is_identifier}
+use Rattle.bilateral.specs.Words.Words.{is_name, is_identifier}
 use Rattle.bilateral.specs.Rows.{CentreRows, IsCentre, IsTable, IsControlling, IsDevice}
 use Rattle.bilateral.specs.Rows.{place_of_see, place_of_control, table_of}
 use Rattle.bilateral.specs.Rows.{no_table, AreVariants, IsVariant, further_of, variants_of, variant_of}

@@ -16,3 +16,4 @@ pub mod TitleWords
 pub mod LineTexts
 pub mod Growing
 pub mod WrittenCentres
+pub mod OfWords

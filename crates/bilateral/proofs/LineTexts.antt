@@ -20,11 +20,11 @@ use Rattle.tase_points.specs.declared.layout.Component.{Component}
 use Rattle.tase_points.specs.declared.layout.Component.TheVariants.{Value, Time, Millis, Flags, Cov}
 use Rattle.sbo_device.specs.declared.kind.CommandKind.{CommandKind}
 use Rattle.sbo_device.specs.declared.kind.CommandKind.TheVariants.{Command, Setpoint}
-use Rattle.table_words.specs.Words.{is_name, is_identifier, kind_in, whole_scope_in, component_in}
-use Rattle.table_words.specs.Words.{layout_in, layout_from, is_distinct}
-use Rattle.table_words.specs.Words.{limit_in, limit_of}
-use Rattle.table_words.specs.Devices.{short_in, span_in, natural_of, range_in, range_of, form_in}
-use Rattle.table_words.specs.Devices.{order_in, is_short, is_range}
+use Rattle.bilateral.specs.Words.Words.{is_name, is_identifier, kind_in, whole_scope_in, component_in}
+use Rattle.bilateral.specs.Words.Words.{layout_in, layout_from, is_distinct}
+use Rattle.bilateral.specs.Words.Words.{limit_in, limit_of}
+use Rattle.bilateral.specs.Words.Devices.{short_in, span_in, natural_of, range_in, range_of, form_in}
+use Rattle.bilateral.specs.Words.Devices.{order_in, is_short, is_range}
 use Rattle.bilateral.specs.declared.line.TableLine.{TableLine}
 use Rattle.bilateral.specs.declared.line.TableLine.TheVariants.{Point, Device, Peer, Slots, Sets}
 use Rattle.bilateral.specs.declared.line.TableLine.TheVariants.{Pending, See, Control, Variant}

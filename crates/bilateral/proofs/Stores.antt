@@ -13,7 +13,7 @@ use Rattle.bilateral.specs.declared.rows.Table.{Table}
 use Rattle.bilateral.specs.declared.rows.TheConstants.{SEE_LIMIT, DEVICE_LIMIT, VARIANT_LIMIT}
 use Rattle.bilateral.specs.declared.store.Store.{Store}
 use Rattle.tase_points.specs.Layouts.{IsLayout}
-use Rattle.table_words.specs.Words.{is_name, is_identifier}
+use Rattle.bilateral.specs.Words.Words.{is_name, is_identifier}
 use Rattle.bilateral.specs.Lines.{IsLawfulLine}
 use Rattle.bilateral.specs.Rows.{CentreRows, IsCentre, IsTable, IsControlling, place_of_see}
 use Rattle.bilateral.specs.Rows.{place_of_control, table_of, further_of, variant_of, no_table}

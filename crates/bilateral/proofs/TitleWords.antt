@@ -23,7 +23,7 @@ use Rattle.plain_text.specs.Numbers.{number_up_to, if_passes}
 use Rattle.plain_text.proofs.Decimal.{number_in-of_decimal}
 use Rattle.ber_values.specs.Dotted.{is_oid, base_128, arcs_octets, oid_of, dotted_in}
 use Rattle.ber_values.specs.declared.object_identifier.TheConstants.{ARC_LIMIT}
-use Rattle.table_words.specs.Words.{title_in, IsTitle, IsDottedOid}
+use Rattle.bilateral.specs.Words.Words.{title_in, IsTitle, IsDottedOid}
 use Rattle.bilateral.specs.Writing.{arcs_behind, arcs_of, title_word, is_solid}
 use Rattle.bilateral.proofs.CleanWords.{IsClean, clean, clean_number_in}
 

@@ -12,7 +12,7 @@ use Rattle.tase_points.specs.declared.layout.Component.{Component}
 use Rattle.tase_points.specs.Layouts.{IsLayout}
 use Rattle.tase_points.specs.Same.{same_component}
 use Rattle.tase_points.proofs.Same.{same_component-true}
-use Rattle.table_words.specs.Words.{is_name, is_distinct}
+use Rattle.bilateral.specs.Words.Words.{is_name, is_distinct}
 use Rattle.bilateral.specs.declared.line.TableLine.{TableLine}
 use Rattle.bilateral.specs.declared.line.TableLine.TheVariants.{Point, Device}
 use Rattle.bilateral.specs.declared.rows.PointRow.{PointRow}

@@ -5,9 +5,9 @@ use Rattle.std.specs.Prelude.{codes, ◌≤◌, IfSome}
 use Rattle.std.specs.Option.{option_map}
 use Rattle.plain_text.specs.Words.{words_in}
 use Rattle.tase_points.specs.declared.layout.Component.{Component}
-use Rattle.table_words.specs.declared.layouts.LayoutWhy.{LayoutWhy}
-use Rattle.table_words.specs.declared.layouts.LayoutWhy.TheVariants.{Part, Twice}
-use Rattle.table_words.specs.declared.device_form.DeviceForm.{DeviceForm}
+use Rattle.bilateral.specs.declared.words.layouts.LayoutWhy.{LayoutWhy}
+use Rattle.bilateral.specs.declared.words.layouts.LayoutWhy.TheVariants.{Part, Twice}
+use Rattle.bilateral.specs.declared.words.device_form.DeviceForm.{DeviceForm}
 use Rattle.bilateral.specs.declared.line.TableLine.{TableLine}
 use Rattle.bilateral.specs.declared.line.TableLine.TheVariants.{Point, Device, Peer, Slots, Sets}
 use Rattle.bilateral.specs.declared.line.TableLine.TheVariants.{Pending, See, Control, Variant}
@@ -16,11 +16,11 @@ use Rattle.bilateral.specs.declared.rows.Table.{Table}
 use Rattle.bilateral.specs.declared.rows.TheConstants.{SLOT_LIMIT, SLOT_DEFAULT, SET_LIMIT}
 use Rattle.bilateral.specs.declared.rows.TheConstants.{SET_DEFAULT, PENDING_LEAST, PENDING_LIMIT}
 use Rattle.bilateral.specs.declared.rows.TheConstants.{PENDING_DEFAULT}
-use Rattle.table_words.specs.Words.{is_name, is_identifier, kind_in, whole_scope_in, layout_in}
-use Rattle.table_words.specs.Words.{title_in}
-use Rattle.table_words.specs.Words.{limit_in, IsTitle}
+use Rattle.bilateral.specs.Words.Words.{is_name, is_identifier, kind_in, whole_scope_in, layout_in}
+use Rattle.bilateral.specs.Words.Words.{title_in}
+use Rattle.bilateral.specs.Words.Words.{limit_in, IsTitle}
 use Rattle.tase_points.specs.Layouts.{IsLayout}
-use Rattle.table_words.specs.Devices.{order_in, IsDeviceLine}
+use Rattle.bilateral.specs.Words.Devices.{order_in, IsDeviceLine}
 
 -- `point NAME KIND`, past its first word
 abbrev pub point_line : List (List ℕ) → Option TableLine

@@ -15,8 +15,8 @@ use Rattle.bilateral.specs.declared.rows.TheConstants.{PENDING_LEAST, PENDING_LI
 use Rattle.bilateral.specs.declared.rows.TheConstants.{PENDING_DEFAULT}
 use Rattle.tase_points.specs.declared.kind.Kind.TheVariants.{State}
 use Rattle.tase_points.specs.Layouts.{IsLayout}
-use Rattle.table_words.specs.Words.{is_name, is_identifier, IsTitle}
-use Rattle.table_words.specs.Devices.{IsDeviceLine}
+use Rattle.bilateral.specs.Words.Words.{is_name, is_identifier, IsTitle}
+use Rattle.bilateral.specs.Words.Devices.{IsDeviceLine}
 use Rattle.bilateral.specs.Lines.{form_of}
 
 -- the points and devices of a centre and its peers' bilateral tables, each numbered from 0 in the

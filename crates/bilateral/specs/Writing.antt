@@ -11,8 +11,8 @@ use Rattle.tase_points.specs.declared.layout.Component.{Component}
 use Rattle.tase_points.specs.declared.layout.Component.TheVariants.{Value, Time, Millis, Flags, Cov}
 use Rattle.sbo_device.specs.declared.kind.CommandKind.{CommandKind}
 use Rattle.sbo_device.specs.declared.kind.CommandKind.TheVariants.{Command, Setpoint}
-use Rattle.table_words.specs.Words.{is_name, is_identifier, is_distinct, IsTitle}
-use Rattle.table_words.specs.Devices.{IsDeviceLine}
+use Rattle.bilateral.specs.Words.Words.{is_name, is_identifier, is_distinct, IsTitle}
+use Rattle.bilateral.specs.Words.Devices.{IsDeviceLine}
 use Rattle.bilateral.specs.declared.line.TableLine.{TableLine}
 use Rattle.bilateral.specs.declared.line.TableLine.TheVariants.{Point, Device, Peer, Slots, Sets}
 use Rattle.bilateral.specs.declared.line.TableLine.TheVariants.{Pending, See, Control, Variant}

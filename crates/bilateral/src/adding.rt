@@ -5,7 +5,7 @@ ghost use Rattle.bilateral.specs.declared.line.TableLine.TheVariants.{Sets, Pend
 ghost use Rattle.bilateral.specs.declared.line.TableLine.TheVariants.{See as SeeLine};
 ghost use Rattle.bilateral.specs.declared.line.TableLine.TheVariants.{Control as ControlLine};
 ghost use Rattle.tase_points.specs.Layouts.{IsLayout};
-ghost use Rattle.table_words.specs.Words.{is_identifier};
+ghost use Rattle.bilateral.specs.Words.Words.{is_identifier};
 ghost use Rattle.bilateral.specs.Rows.{place_of_see, place_of_control, further_of};
 ghost use Rattle.bilateral.specs.Lines.{IsLawfulLine};
 ghost use Rattle.bilateral.specs.Reading.{row_fault, current_table, with_row, seen_in_last};

@@ -5,9 +5,9 @@ ghost use Rattle.bilateral.specs.Lines.{device_line, control_line, tag_word_in, 
 
 use crate::line::TableLine;
 use crate::rows::DeviceRow;
+use crate::words::{is_name, read_device_form, visible_word};
 use plain_text::next_word;
 use std::alloc::{AllocError, Global};
-use table_words::{is_name, read_device_form, visible_word};
 
 /// `NAME COMMAND sbo CHECKBACK MS` or `NAME COMMAND direct`.
 pub fn read_device(alloc: Global, text: &[u8]) -> Result<Option<TableLine>, AllocError>

@@ -17,7 +17,9 @@ mod reading;
 mod rows;
 mod see_line;
 mod store;
+pub mod words;
 
+pub use crate::words::{IDENTIFIER_LIMIT, NAME_LIMIT};
 pub use centre::{Centre, peer_of};
 pub use fault::{TableFault, TableWhy};
 pub use laws::{one_reading, written_tables_are_read};
@@ -29,4 +31,3 @@ pub use rows::{
     SLOT_LIMIT, See, Sees, Table, VARIANT_LIMIT,
 };
 pub use sbo_device::SPAN_LIMIT;
-pub use table_words::{IDENTIFIER_LIMIT, NAME_LIMIT};

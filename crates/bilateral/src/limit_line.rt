@@ -5,8 +5,8 @@ ghost use Rattle.bilateral.specs.Lines.{slots_line, sets_line, pending_line, IsL
 
 use crate::line::TableLine;
 use crate::rows::{PENDING_LEAST, PENDING_LIMIT, SET_LIMIT, SLOT_LIMIT};
+use crate::words::read_limit;
 use plain_text::next_word;
-use table_words::read_limit;
 
 /// `N` of `slots N`.
 pub fn read_slots(text: &[u8]) -> Option<TableLine>

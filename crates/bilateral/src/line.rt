@@ -9,10 +9,10 @@ use crate::rows::{
     Controls, DeviceRow, PENDING_DEFAULT, PointRow, SET_DEFAULT, SLOT_DEFAULT, Sees, Table,
 };
 use crate::see_line::read_see;
+use crate::words::{is_identifier, is_name, read_kind, read_title, visible_word};
 use ber_values::Visible;
 use plain_text::{four_words, is_spaced, next_word, three_words, two_words};
 use std::alloc::{AllocError, Global};
-use table_words::{is_identifier, is_name, read_kind, read_title, visible_word};
 use tase_points::Layout;
 
 /// What one line of a table text says.

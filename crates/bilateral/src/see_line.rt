@@ -4,9 +4,9 @@ ghost use Rattle.plain_text.specs.Words.{words};
 ghost use Rattle.bilateral.specs.Lines.{see_line, IsLawfulLine};
 
 use crate::line::TableLine;
+use crate::words::{LayoutWhy, is_name, read_layout, read_scope, visible_word};
 use plain_text::three_words;
 use std::alloc::{AllocError, Global};
-use table_words::{LayoutWhy, is_name, read_layout, read_scope, visible_word};
 
 /// `NAME SCOPE LAYOUT`.
 pub fn read_see(alloc: Global, text: &[u8]) -> Result<Option<TableLine>, AllocError>

@@ -4,7 +4,7 @@ use plain_text::push_hex;
 use std::alloc::{AllocError, Global};
 
 /// What is cut.
-#[derive(Clone, Copy, PartialEq, Eq)]
+#[derive(Clone, Copy)]
 pub(crate) enum Stream {
     /// The octets of a capture.
     Capture,
@@ -37,18 +37,16 @@ pub(crate) struct CutText {
     pub(crate) places: u64,
 }
 
-// The front of a line `in W HEX` up to its digits, and these.
-fn given_line(line: &[u8]) -> Option<(&[u8], &[u8])> {
-    split_behind_seat(line, b"in ")
+/// Whether an octet ends a line.
+pub(crate) fn is_line_end(octet: &u8) -> bool {
+    *octet == b'\n'
 }
 
 // A line that begins with a word and a space, cut behind its second word and a space.
 fn split_behind_seat<'a>(line: &'a [u8], word: &[u8]) -> Option<(&'a [u8], &'a [u8])> {
     let rest = line.strip_prefix(word)?;
     let space = rest.iter().position(|octet| *octet == b' ')?;
-    let digits = rest.get(space..)?.strip_prefix(b" ")?;
-    let front = line.strip_suffix(digits)?;
-    Some((front, digits))
+    line.split_at_checked(word.len().saturating_add(space).saturating_add(1))
 }
 
 impl Cutter {
@@ -74,14 +72,20 @@ impl Cutter {
         Ok(())
     }
 
-    fn push_line(&mut self, stream: Stream, line: &[u8]) -> Result<(), AllocError> {
-        if stream == Stream::Capture {
-            return self.push_cut(b"", line);
-        }
-        match given_line(line) {
+    // A line of a scenario: what `in W HEX` gives is cut.
+    fn push_scenario(&mut self, line: &[u8]) -> Result<(), AllocError> {
+        match split_behind_seat(line, b"in ") {
             Some((front, digits)) => self.push_cut(front, digits),
             None => self.out.extend_from_slice(line),
         }
+    }
+
+    fn push_line(&mut self, stream: Stream, line: &[u8]) -> Result<(), AllocError> {
+        match stream {
+            Stream::Capture => self.push_cut(b"", line)?,
+            Stream::Scenario => self.push_scenario(line)?,
+        }
+        self.out.push(b'\n').map_err(AllocError::from)
     }
 }
 
@@ -97,12 +101,11 @@ pub(crate) fn cut_text(
         cut,
         places: 0,
     };
-    for (index, line) in text.split(|octet| *octet == b'\n').enumerate() {
-        if index > 0 {
-            cutter.out.push(b'\n')?;
-        }
+    for line in text.split(is_line_end) {
         cutter.push_line(stream, line)?;
     }
+    // No line end stands behind the last line.
+    cutter.out.pop();
     Ok(CutText {
         text: cutter.out,
         places: cutter.places,
@@ -121,7 +124,7 @@ pub(crate) fn capture_of(alloc: Global, octets: &[u8]) -> Result<Vec<u8>, AllocE
 pub(crate) fn joined(alloc: Global, shown: &[u8]) -> Result<Vec<u8>, AllocError> {
     let mut out = Vec::new(alloc);
     let mut open: &[u8] = b"";
-    for (index, line) in shown.split(|octet| *octet == b'\n').enumerate() {
+    for (index, line) in shown.split(is_line_end).enumerate() {
         let (front, rest) = split_behind_seat(line, b"out ").unwrap_or((b"", line));
         if !front.is_empty() && front == open {
             out.extend_from_slice(rest)?;

@@ -1,7 +1,7 @@
 //! What may fail in a case, and what must come of it.
 
 use crate::playing::Played;
-use case_text::{Case, Device, Failing, Input, Wanted};
+use case_text::{Case, Device, Failing, Input, Listening, Network, Node, Wanted, WantedFile};
 use std::alloc::{AllocError, Global};
 
 // A server starts a job for its feed and one for its clock, and then one for each link.
@@ -25,25 +25,58 @@ fn note_link<'a>(devices: &mut Vec<(Device, &'a str)>, name: &'a str) -> Result<
     Ok(())
 }
 
+// Notes the writes of standard output and of files.
+fn note_files<'a>(
+    devices: &mut Vec<(Device, &'a str)>,
+    files: &'a [WantedFile],
+) -> Result<(), AllocError> {
+    devices.push((Device::Write, "-"))?;
+    for file in files {
+        devices.push((Device::Write, file.name.as_str()))?;
+    }
+    Ok(())
+}
+
+// Notes the calls of the links of nodes.
+fn note_nodes<'a>(
+    devices: &mut Vec<(Device, &'a str)>,
+    nodes: &'a [Node],
+) -> Result<(), AllocError> {
+    for node in nodes {
+        note_link(devices, node.name.as_str())?;
+    }
+    Ok(())
+}
+
+// Notes the calls at an address at which nodes connect.
+fn note_listening<'a>(
+    devices: &mut Vec<(Device, &'a str)>,
+    listening: &'a Listening,
+) -> Result<(), AllocError> {
+    devices.push((Device::Accept, ""))?;
+    devices.push((Device::Start, ""))?;
+    note_nodes(devices, &listening.nodes)
+}
+
+// Notes the calls of all links.
+fn note_network<'a>(
+    devices: &mut Vec<(Device, &'a str)>,
+    network: &'a Network,
+) -> Result<(), AllocError> {
+    note_nodes(devices, &network.nodes)?;
+    for listening in &network.listens {
+        note_listening(devices, listening)?;
+    }
+    Ok(())
+}
+
 /// What calls may fail of what lies outside of a case, each with its name.
 pub(crate) fn devices_of(alloc: Global, case: &Case) -> Result<Vec<(Device, &str)>, AllocError> {
     let mut devices = Vec::new(alloc);
     note_inputs(&mut devices, &case.given)?;
     note_inputs(&mut devices, &case.own)?;
-    devices.push((Device::Write, "-"))?;
-    for file in &case.files {
-        devices.push((Device::Write, file.name.as_str()))?;
-    }
-    for node in &case.network.nodes {
-        note_link(&mut devices, node.name.as_str())?;
-    }
-    for listening in &case.network.listens {
-        devices.push((Device::Accept, ""))?;
-        devices.push((Device::Start, ""))?;
-        for node in &listening.nodes {
-            note_link(&mut devices, node.name.as_str())?;
-        }
-    }
+    note_files(&mut devices, &case.files)?;
+    note_network(&mut devices, &case.network)?;
     devices.push((Device::Clock, ""))?;
     Ok(devices)
 }

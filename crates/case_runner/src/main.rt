@@ -11,8 +11,8 @@ mod showing;
 mod tally;
 
 use case_text::{BadLine, Case, Sheet, read_cases};
-use judging::{Verdict, judge};
-use showing::{bad_line, failure_line};
+use judging::judge;
+use showing::bad_line;
 use std::alloc::Global;
 use std::io::{self, Write};
 use std::process::ExitCode;
@@ -28,7 +28,7 @@ fn tell_bad_lines<W: Write>(
     tally: &mut Tally,
 ) -> io::Result<()> {
     for line in lines {
-        out.write_all(bad_line(alloc, line)?.as_bytes())?;
+        out.write_all(&bad_line(alloc, line)?)?;
         tally.count(false);
     }
     Ok(())
@@ -41,9 +41,12 @@ fn play_case<R: Threads + Wait + time::Clock + Copy + Send + 'static, W: Write>(
     case: &Case,
     tally: &mut Tally,
 ) -> io::Result<()> {
-    let verdict = judge(rt, alloc, case)?;
-    tally.count(matches!(&verdict, Verdict::Passed));
-    out.write_all(&failure_line(alloc, case, &verdict)?)
+    let failure = judge(rt, alloc, case)?;
+    tally.count(failure.is_none());
+    match &failure {
+        Some(line) => out.write_all(line),
+        None => Ok(()),
+    }
 }
 
 fn play_sheet<R: Threads + Wait + time::Clock + Copy + Send + 'static, W: Write>(

@@ -1,12 +1,12 @@
 //! How a case is played: over an outside in memory.
 
-use case_text::{Case, Device, Failing, Failures, Input, Listening, Node, Wanted};
-use command_io::Status;
+use case_text::{Case, Device, Failing, Failures, Input, Listening, Node, Wanted, WantedFile};
+use commands::io::Status;
 use held_outside::{HeldOutside, Plan};
 use job_threads::ThreadSpawner;
+use outside::links::{Link, Listener, ScriptLink, ScriptListener};
+use outside::names::{MemoryOutside, Outside};
 use outside::{ByteSink, TextSource};
-use outside_links::{Link, Listener, ScriptLink, ScriptListener};
-use outside_names::{MemoryOutside, Outside};
 use std::alloc::{AllocError, Global};
 use std::sync::Wait;
 use std::thread::Threads;
@@ -48,6 +48,13 @@ pub(crate) struct Played {
     pub(crate) faults: u64,
 }
 
+impl Played {
+    /// Whether anything failed.
+    pub(crate) fn has_fault(&self) -> bool {
+        self.faults > 0 || self.told.faults > 0
+    }
+}
+
 // The most octets of room, and what there is of it beyond what is wanted.
 const MOST_ROOM: u64 = 268_435_456;
 
@@ -56,16 +63,22 @@ const MORE_ROOM: u64 = 65_536;
 // The room of standard output. Where none is said it is more than a case can want that passes: in
 // pieces what is shown may take a line for each of its octets.
 fn room_of(case: &Case) -> usize {
-    let wanted = match &case.wanted {
+    let room = match case.room {
+        Some(room) => room,
+        None => wanted_count(&case.wanted)
+            .saturating_mul(8)
+            .saturating_add(MORE_ROOM),
+    };
+    room.min(MOST_ROOM) as usize
+}
+
+// How many octets are wanted.
+fn wanted_count(wanted: &Wanted) -> u64 {
+    match wanted {
         Wanted::Octets(octets) => octets.len() as u64,
         Wanted::Count(count) => *count,
         Wanted::Any => 0,
-    };
-    let room = match case.room {
-        Some(room) => room,
-        None => wanted.saturating_mul(8).saturating_add(MORE_ROOM),
-    };
-    room.min(MOST_ROOM) as usize
+    }
 }
 
 // The calls that fail in a play of a case with this change.
@@ -115,6 +128,15 @@ fn put_sink(
     outside.put_out(alloc, name, sink)
 }
 
+// The room of a file.
+fn file_room(file: &WantedFile) -> usize {
+    let wanted = match &file.octets {
+        Some(octets) => octets.len() as u64,
+        None => MOST_ROOM / 16,
+    };
+    wanted.saturating_add(MORE_ROOM).min(MOST_ROOM) as usize
+}
+
 // What stands outside of a case.
 fn outside_of(
     alloc: Global,
@@ -126,32 +148,26 @@ fn outside_of(
     put_inputs(alloc, &mut outside, failures, &case.own)?;
     put_sink(alloc, &mut outside, failures, "-", room_of(case))?;
     for file in &case.files {
-        let wanted = match &file.octets {
-            Some(octets) => octets.len() as u64,
-            None => MOST_ROOM / 16,
-        };
-        let room = wanted.saturating_add(MORE_ROOM).min(MOST_ROOM);
-        put_sink(
-            alloc,
-            &mut outside,
-            failures,
-            file.name.as_str(),
-            room as usize,
-        )?;
+        put_sink(alloc, &mut outside, failures, &file.name, file_room(file))?;
     }
     case.network.put(alloc, &mut outside, failures)?;
     Ok(outside)
 }
 
+// How many links listeners give.
+fn count_links(listens: &[Listening]) -> u64 {
+    let mut links = 0u64;
+    for listening in listens {
+        links = links.saturating_add(listening.nodes.len() as u64);
+    }
+    links
+}
+
 // What standard input of a case waits for: that its nodes were served, and that each call has come
 // that is to fail.
 fn plan_of(alloc: Global, case: &Case, failures: Failures<'_>) -> Result<Plan, AllocError> {
-    let mut links = 0u64;
-    for listening in &case.network.listens {
-        links = links.saturating_add(listening.nodes.len() as u64);
-    }
     Ok(Plan {
-        links,
+        links: count_links(&case.network.listens),
         accepts: failures.calls(alloc, Device::Accept)?,
         readings: failures.calls(alloc, Device::Clock)?,
         meeting: case.network.meeting,
@@ -297,6 +313,18 @@ fn changed_outside_of(
     Ok(outside)
 }
 
+// What stands outside of a case with this change, where standard input waits.
+fn held_outside_of<R: Copy + Drop>(
+    rt: &R,
+    alloc: Global,
+    case: &Case,
+    change: Change<'_>,
+) -> Result<HeldOutside<MemoryOutside, R>, AllocError> {
+    let plan = plan_of(alloc, case, failures_of(case, change))?;
+    let inside = changed_outside_of(alloc, case, change)?;
+    HeldOutside::new(alloc, *rt, inside, plan)
+}
+
 /// Plays a case with this change.
 pub(crate) fn play<R: Threads + Wait + time::Clock + Copy + Send + 'static>(
     rt: &R,
@@ -304,11 +332,8 @@ pub(crate) fn play<R: Threads + Wait + time::Clock + Copy + Send + 'static>(
     case: &Case,
     change: Change<'_>,
 ) -> Result<Played, AllocError> {
-    let failures = failures_of(case, change);
-    let plan = plan_of(alloc, case, failures)?;
-    let refused = failures.numbers(alloc, Device::Start, "")?;
-    let inside = changed_outside_of(alloc, case, change)?;
-    let mut outside = HeldOutside::new(alloc, *rt, inside, plan)?;
+    let refused = failures_of(case, change).numbers(alloc, Device::Start, "")?;
+    let mut outside = held_outside_of(rt, alloc, case, change)?;
     let ended = run_words(rt, alloc, &case.words, &mut outside, refused);
     played_of(alloc, case, outside.outside(), ended)
 }

@@ -1,43 +1,34 @@
 //! What is printed of a case that failed.
 
-use crate::cutting::Cut;
-use crate::judging::{Manner, Verdict};
+use crate::cutting::{Cut, is_line_end};
 use crate::playing::Played;
 use case_text::{BadLine, Case, Device, Failing, Wanted};
+use plain_text::push_decimal;
 use std::alloc::{AllocError, Global};
+
+/// How a case was played when it failed.
+#[derive(Clone, Copy)]
+pub(crate) enum Manner<'a> {
+    AsItStands,
+    Cut(Cut),
+    /// With this call failing too.
+    Failing(&'a Failing),
+}
 
 fn push(out: &mut Vec<u8>, text: &str) -> Result<(), AllocError> {
     out.extend_from_slice(text.as_bytes())
 }
 
-// The number of the first line in which two texts differ, and this line of both.
-#[derive(Clone, Copy)]
-struct Difference<'a> {
-    number: usize,
-    wanted: Option<&'a [u8]>,
-    came: Option<&'a [u8]>,
-}
-
-fn first_difference<'a>(wanted: &'a [u8], came: &'a [u8]) -> Option<Difference<'a>> {
-    let mut lines = wanted.split(|octet| *octet == b'\n');
-    let mut number = 0usize;
-    for came in came.split(|octet| *octet == b'\n') {
-        number = number.saturating_add(1);
-        let wanted = lines.next();
-        if wanted != Some(came) {
-            return Some(Difference {
-                number,
-                wanted,
-                came: Some(came),
-            });
-        }
-    }
-    let wanted = lines.next()?;
-    Some(Difference {
-        number: number.saturating_add(1),
-        wanted: Some(wanted),
-        came: None,
-    })
+// Appends a number between two texts.
+fn push_number(
+    out: &mut Vec<u8>,
+    front: &str,
+    number: u64,
+    behind: &str,
+) -> Result<(), AllocError> {
+    push(out, front)?;
+    push_decimal(out, number)?;
+    push(out, behind)
 }
 
 fn push_line(out: &mut Vec<u8>, line: Option<&[u8]>) -> Result<(), AllocError> {
@@ -51,76 +42,90 @@ fn push_line(out: &mut Vec<u8>, line: Option<&[u8]>) -> Result<(), AllocError> {
     }
 }
 
-fn push_shown(
-    alloc: Global,
+// Appends the number of a line in which two texts differ, and this line of both.
+fn push_difference(
     out: &mut Vec<u8>,
-    wanted: &[u8],
-    came: &[u8],
+    number: u64,
+    wanted: Option<&[u8]>,
+    came: Option<&[u8]>,
 ) -> Result<(), AllocError> {
-    let Some(difference) = first_difference(wanted, came) else {
-        return Ok(());
-    };
-    let number = difference.number;
-    push(out, &format!(in alloc; "; line {number} wanted ")?)?;
-    push_line(out, difference.wanted)?;
+    push_number(out, "; line ", number, " wanted ")?;
+    push_line(out, wanted)?;
     push(out, ", came ")?;
-    push_line(out, difference.came)
+    push_line(out, came)
 }
 
-fn push_played(
-    alloc: Global,
-    out: &mut Vec<u8>,
-    case: &Case,
-    played: &Played,
-) -> Result<(), AllocError> {
-    let (wanted, came) = (case.status, played.status);
-    push(
-        out,
-        &format!(in alloc; "status {wanted} wanted, {came} came")?,
-    )?;
-    match &case.wanted {
-        Wanted::Octets(octets) => push_shown(alloc, out, octets, &played.shown)?,
-        Wanted::Any => {}
+// Appends the first line in which two texts differ, if they do.
+fn push_shown(out: &mut Vec<u8>, wanted: &[u8], came: &[u8]) -> Result<(), AllocError> {
+    let mut lines = wanted.split(is_line_end);
+    let mut number = 1u64;
+    for came in came.split(is_line_end) {
+        let wanted = lines.next();
+        if wanted != Some(came) {
+            return push_difference(out, number, wanted, Some(came));
+        }
+        number = number.saturating_add(1);
+    }
+    match lines.next() {
+        Some(wanted) => push_difference(out, number, Some(wanted), None),
+        None => Ok(()),
+    }
+}
+
+// Appends what differs in what was printed.
+fn push_printed(out: &mut Vec<u8>, wanted: &Wanted, shown: &[u8]) -> Result<(), AllocError> {
+    match wanted {
+        Wanted::Octets(octets) => push_shown(out, octets, shown),
+        Wanted::Any => Ok(()),
         Wanted::Count(count) => {
-            let (wanted, came) = (*count, played.shown.len());
-            push(
-                out,
-                &format!(in alloc; "; {wanted} octets wanted, {came} came")?,
-            )?;
+            push_number(out, "; ", *count, " octets wanted, ")?;
+            push_number(out, "", shown.len() as u64, " came")
         }
     }
+}
+
+// Appends whether the links did what they must.
+fn push_links(out: &mut Vec<u8>, played: &Played) -> Result<(), AllocError> {
     if !played.told.is_whole {
         push(out, "; a node took other octets")?;
     }
     if !played.have_met {
         push(out, "; the links didn't meet")?;
     }
-    push_files(alloc, out, case, played)
+    Ok(())
 }
 
-// The files that took something else than they must.
-fn push_files(
-    alloc: Global,
-    out: &mut Vec<u8>,
-    case: &Case,
-    played: &Played,
-) -> Result<(), AllocError> {
+// Appends what differs in a file, if it took something else than it must.
+fn push_file(out: &mut Vec<u8>, name: &str, wanted: &[u8], came: &[u8]) -> Result<(), AllocError> {
+    if wanted == came {
+        return Ok(());
+    }
+    push(out, "; file ")?;
+    push(out, name)?;
+    push_shown(out, wanted, came)
+}
+
+// Appends the files that took something else than they must.
+fn push_files(out: &mut Vec<u8>, case: &Case, played: &Played) -> Result<(), AllocError> {
     for (file, came) in case.files.iter().zip(played.files.iter()) {
-        let Some(octets) = &file.octets else {
-            continue;
-        };
-        if octets.as_slice() != came.as_slice() {
-            push(out, "; file ")?;
-            push(out, file.name.as_str())?;
-            push_shown(alloc, out, octets, came)?;
+        if let Some(octets) = &file.octets {
+            push_file(out, &file.name, octets, came)?;
         }
     }
     Ok(())
 }
 
-// The line by which a case says that this call fails.
-fn push_failing(alloc: Global, out: &mut Vec<u8>, failing: &Failing) -> Result<(), AllocError> {
-    let word = match failing.device {
+fn push_played(out: &mut Vec<u8>, case: &Case, played: &Played) -> Result<(), AllocError> {
+    push_number(out, "status ", case.status, " wanted, ")?;
+    push_number(out, "", played.status, " came")?;
+    push_printed(out, &case.wanted, &played.shown)?;
+    push_links(out, played)?;
+    push_files(out, case, played)
+}
+
+// The word by which a case says that a call of this fails.
+fn word_of(device: Device) -> &'static str {
+    match device {
         Device::Read => "read",
         Device::Write => "write",
         Device::Recv => "recv",
@@ -128,53 +133,61 @@ fn push_failing(alloc: Global, out: &mut Vec<u8>, failing: &Failing) -> Result<(
         Device::Accept => "accept",
         Device::Clock => "clock",
         Device::Start => "start",
-    };
-    let (name, number) = (failing.name.as_str(), failing.number);
-    push(
-        out,
-        &format!(in alloc; "with call {number} of {word} {name} failing: ")?,
-    )
+    }
 }
 
-fn push_manner(alloc: Global, out: &mut Vec<u8>, manner: &Manner) -> Result<(), AllocError> {
+fn push_failing(out: &mut Vec<u8>, failing: &Failing) -> Result<(), AllocError> {
+    push_number(out, "with call ", failing.number, " of ")?;
+    push(out, word_of(failing.device))?;
+    push(out, " ")?;
+    push(out, &failing.name)?;
+    push(out, " failing: ")
+}
+
+fn push_manner(out: &mut Vec<u8>, manner: Manner<'_>) -> Result<(), AllocError> {
     match manner {
         Manner::AsItStands => Ok(()),
         Manner::Cut(Cut::Everywhere) => push(out, "cut everywhere: "),
-        Manner::Cut(Cut::At(place)) => {
-            let place = *place;
-            push(out, &format!(in alloc; "cut at place {place}: ")?)
-        }
-        Manner::Failing(failing) => push_failing(alloc, out, failing),
+        Manner::Cut(Cut::At(place)) => push_number(out, "cut at place ", place, ": "),
+        Manner::Failing(failing) => push_failing(out, failing),
     }
 }
 
-/// The line of a case that failed; empty where it passed.
+// Appends the file and the title of a case.
+fn push_front(out: &mut Vec<u8>, case: &Case) -> Result<(), AllocError> {
+    push(out, &case.file)?;
+    push(out, ": ")?;
+    push(out, &case.title)?;
+    push(out, ": ")
+}
+
+/// The line of a case that came to this where it was played in this manner.
 pub(crate) fn failure_line(
     alloc: Global,
     case: &Case,
-    verdict: &Verdict,
+    manner: Manner<'_>,
+    played: &Played,
 ) -> Result<Vec<u8>, AllocError> {
     let mut out = Vec::new(alloc);
-    let (file, title) = (case.file.as_str(), case.title.as_str());
-    let front = format!(in alloc; "{file}: {title}: ")?;
-    match verdict {
-        Verdict::Passed => return Ok(out),
-        Verdict::NotCut => {
-            push(&mut out, &front)?;
-            push(&mut out, "nothing that can be cut")?;
-        }
-        Verdict::Failed(manner, played) => {
-            push(&mut out, &front)?;
-            push_manner(alloc, &mut out, manner)?;
-            push_played(alloc, &mut out, case, played)?;
-        }
-    }
+    push_front(&mut out, case)?;
+    push_manner(&mut out, manner)?;
+    push_played(&mut out, case, played)?;
     push(&mut out, "\n")?;
     Ok(out)
 }
 
+/// The line of a case that has nothing that may be cut.
+pub(crate) fn uncut_line(alloc: Global, case: &Case) -> Result<Vec<u8>, AllocError> {
+    let mut out = Vec::new(alloc);
+    push_front(&mut out, case)?;
+    push(&mut out, "nothing that can be cut\n")?;
+    Ok(out)
+}
+
 /// The line of a line that isn't read.
-pub(crate) fn bad_line(alloc: Global, line: &BadLine) -> Result<String, AllocError> {
-    let (file, number) = (line.file.as_str(), line.number);
-    format!(in alloc; "{file} line {number}: not read\n")
+pub(crate) fn bad_line(alloc: Global, line: &BadLine) -> Result<Vec<u8>, AllocError> {
+    let mut out = Vec::new(alloc);
+    push(&mut out, &line.file)?;
+    push_number(&mut out, " line ", line.number, ": not read\n")?;
+    Ok(out)
 }

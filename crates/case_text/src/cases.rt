@@ -1,7 +1,7 @@
 //! What a case is.
 
 use crate::failing::Failing;
-use crate::inputs::{Input, copied, input_named};
+use crate::inputs::{Input, input_named};
 use crate::network::Network;
 use std::alloc::{AllocError, Global};
 
@@ -47,10 +47,16 @@ pub struct Case {
 pub(crate) fn words_in(alloc: Global, text: &str) -> Result<Vec<String>, AllocError> {
     let mut words = Vec::new(alloc);
     for word in text.split_whitespace() {
-        let word = if word == "''" { "" } else { word };
-        words.push(String::from_str(alloc, word)?)?;
+        words.push(word_of(alloc, word)?)?;
     }
     Ok(words)
+}
+
+fn word_of(alloc: Global, word: &str) -> Result<String, AllocError> {
+    if word == "''" {
+        return Ok(String::new(alloc));
+    }
+    String::from_str(alloc, word)
 }
 
 /// The name of the input that the words are about: the last word, or that before `--limit` and
@@ -79,7 +85,7 @@ impl Case {
             file: String::from_str(alloc, file)?,
             title: String::from_str(alloc, title)?,
             words: words_in(alloc, words)?,
-            given: copied(alloc, given)?,
+            given: given.to_vec(alloc)?,
             own: Vec::new(alloc),
             failing: Vec::new(alloc),
             room: None,
@@ -92,12 +98,8 @@ impl Case {
         })
     }
 
-    /// All octets of an input of it, if it has one of this name.
-    pub fn text_of(&self, alloc: Global, name: &str) -> Result<Option<Vec<u8>>, AllocError> {
-        let own = input_named(&self.own, name);
-        match own.or(input_named(&self.given, name)) {
-            Some(input) => Ok(Some(input.octets(alloc)?)),
-            None => Ok(None),
-        }
+    /// The input of it with this name.
+    pub fn input(&self, name: &str) -> Option<&Input> {
+        input_named(&self.own, name).or(input_named(&self.given, name))
     }
 }

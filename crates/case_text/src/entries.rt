@@ -7,37 +7,38 @@ use std::alloc::{AllocError, Global};
 pub(crate) struct Entry {
     pub(crate) number: u64,
     pub(crate) head: String,
-    /// The lines of its block, each ended by LF; None where no block is there.
-    pub(crate) block: Option<Vec<u8>>,
+    /// The lines of its block, each ended by LF; empty where no block is there.
+    block: Vec<u8>,
 }
 
 /// Entries while they are read.
 #[derive(Drop)]
 struct Entries {
     alloc: Global,
-    whole: Vec<Entry>,
-    last: Option<Entry>,
+    read: Vec<Entry>,
     /// How many empty lines stand behind the last line of a block.
     empty: u64,
     number: u64,
 }
 
 impl Entry {
+    /// The lines of its block, if it has one.
+    pub(crate) fn block(&self) -> Option<&[u8]> {
+        if self.block.is_empty() {
+            return None;
+        }
+        Some(&self.block)
+    }
+
     // Appends a line to the block, behind so many empty ones if it has begun.
-    fn add(&mut self, alloc: Global, line: &str, empty: u64) -> Result<(), AllocError> {
-        let mut block = match self.block.take() {
-            Some(mut block) => {
-                for _ in 0..empty {
-                    block.push(b'\n')?;
-                }
-                block
+    fn add(&mut self, line: &str, empty: u64) -> Result<(), AllocError> {
+        if !self.block.is_empty() {
+            for _ in 0..empty {
+                self.block.push(b'\n')?;
             }
-            None => Vec::new(alloc),
-        };
-        block.extend_from_slice(line.as_bytes())?;
-        block.push(b'\n')?;
-        self.block = Some(block);
-        Ok(())
+        }
+        self.block.extend_from_slice(line.as_bytes())?;
+        self.block.push(b'\n').map_err(AllocError::from)
     }
 }
 
@@ -47,19 +48,15 @@ impl Entries {
         let entry = Entry {
             number: self.number,
             head: String::from_str(self.alloc, line)?,
-            block: None,
+            block: Vec::new(self.alloc),
         };
-        if let Some(last) = self.last.replace(entry) {
-            self.whole.push(last)?;
-        }
-        Ok(())
+        self.read.push(entry).map_err(AllocError::from)
     }
 
     // Appends a line to the block of the last entry; before the first it is an entry itself.
     fn indented(&mut self, line: &str) -> Result<(), AllocError> {
-        let empty = self.empty;
-        match &mut self.last {
-            Some(entry) => entry.add(self.alloc, line, empty),
+        match self.read.last_mut() {
+            Some(entry) => entry.add(line, self.empty),
             None => self.begin("    "),
         }
     }
@@ -89,17 +86,12 @@ impl Entries {
 pub(crate) fn entries_in(alloc: Global, text: &str) -> Result<Vec<Entry>, AllocError> {
     let mut entries = Entries {
         alloc,
-        whole: Vec::new(alloc),
-        last: None,
+        read: Vec::new(alloc),
         empty: 0,
         number: 0,
     };
     for line in text.split('\n') {
         entries.take(line)?;
     }
-    let mut whole = entries.whole;
-    if let Some(last) = entries.last {
-        whole.push(last)?;
-    }
-    Ok(whole)
+    Ok(entries.read)
 }

@@ -47,18 +47,13 @@ impl Failing {
 impl Failures<'_> {
     /// The numbers of the calls that fail of this device under this name.
     pub fn numbers(
-        &self,
+        self,
         alloc: Global,
         device: Device,
         name: &str,
     ) -> Result<Vec<u64>, AllocError> {
         let mut numbers = Vec::new(alloc);
-        for failing in self.said {
-            if failing.is_of(device, name) {
-                numbers.push(failing.number)?;
-            }
-        }
-        if let Some(failing) = self.more {
+        for failing in self.said.iter().chain(self.more) {
             if failing.is_of(device, name) {
                 numbers.push(failing.number)?;
             }
@@ -67,11 +62,11 @@ impl Failures<'_> {
     }
 
     /// How many calls of this device there must be so that each comes that is to fail.
-    pub fn calls(&self, alloc: Global, device: Device) -> Result<u64, AllocError> {
-        let mut calls = 0u64;
-        for number in self.numbers(alloc, device, "")? {
-            calls = calls.max(number.saturating_add(1));
+    pub fn calls(self, alloc: Global, device: Device) -> Result<u64, AllocError> {
+        let numbers = self.numbers(alloc, device, "")?;
+        match numbers.iter().max() {
+            Some(last) => Ok(last.saturating_add(1)),
+            None => Ok(0),
         }
-        Ok(calls)
     }
 }

@@ -1,28 +1,20 @@
 //! The inputs of cases.
 
+use crate::lines::Refused;
 use std::alloc::{AllocError, Global};
 
 /// Octets that stand so many times one behind another.
-#[derive(Drop)]
+#[derive(Clone, Drop)]
 pub struct Part {
     pub octets: Vec<u8>,
     pub times: u64,
 }
 
 /// A named input.
-#[derive(Drop)]
+#[derive(Clone, Drop)]
 pub struct Input {
     pub name: String,
     pub parts: Vec<Part>,
-}
-
-impl Part {
-    fn copy(&self, alloc: Global) -> Result<Part, AllocError> {
-        Ok(Part {
-            octets: Vec::from_slice(alloc, &self.octets)?,
-            times: self.times,
-        })
-    }
 }
 
 impl Input {
@@ -34,18 +26,12 @@ impl Input {
         })
     }
 
-    fn copy(&self, alloc: Global) -> Result<Input, AllocError> {
-        let mut input = Input::new(alloc, &self.name)?;
-        for part in &self.parts {
-            input.parts.push(part.copy(alloc)?)?;
-        }
-        Ok(input)
-    }
-
     // Appends octets, so many times.
-    fn append(&mut self, octets: Vec<u8>, times: u64) -> Result<(), AllocError> {
-        self.parts.push(Part { octets, times })?;
-        Ok(())
+    fn append(&mut self, alloc: Global, octets: &[u8], times: u64) -> Result<(), Refused> {
+        let octets = Vec::from_slice(alloc, octets)?;
+        self.parts
+            .push(Part { octets, times })
+            .map_err(Refused::from)
     }
 
     /// All octets of it.
@@ -62,16 +48,12 @@ impl Input {
 
 /// The input with this name.
 pub(crate) fn input_named<'a>(inputs: &'a [Input], name: &str) -> Option<&'a Input> {
-    inputs.iter().find(|input| input.name.as_str() == name)
-}
-
-/// The inputs once more.
-pub(crate) fn copied(alloc: Global, inputs: &[Input]) -> Result<Vec<Input>, AllocError> {
-    let mut copies = Vec::new(alloc);
     for input in inputs {
-        copies.push(input.copy(alloc)?)?;
+        if input.name.as_str() == name {
+            return Some(input);
+        }
     }
-    Ok(copies)
+    None
 }
 
 /// Appends octets to the input with this name, which is made where it isn't there.
@@ -79,16 +61,15 @@ pub(crate) fn append_to(
     alloc: Global,
     inputs: &mut Vec<Input>,
     name: &str,
-    octets: Vec<u8>,
+    octets: &[u8],
     times: u64,
-) -> Result<(), AllocError> {
+) -> Result<(), Refused> {
     for input in inputs.iter_mut() {
         if input.name.as_str() == name {
-            return input.append(octets, times);
+            return input.append(alloc, octets, times);
         }
     }
     let mut input = Input::new(alloc, name)?;
-    input.append(octets, times)?;
-    inputs.push(input)?;
-    Ok(())
+    input.append(alloc, octets, times)?;
+    inputs.push(input).map_err(Refused::from)
 }

@@ -1,14 +1,14 @@
 //! How the lines of a case are read.
 
-use crate::cases::{Case, Wanted, WantedFile, words_in};
+use crate::cases::{Case, Wanted, WantedFile, subject, words_in};
 use crate::failing::{Device, Failing};
 use crate::inputs::append_to;
 use crate::network::{Listening, Node};
 use plain_text::{read_hex, read_number};
-use std::alloc::{AllocError, Global};
+use std::alloc::{AllocError, AllocFailed, Global};
 
 /// Why an entry isn't taken.
-#[derive(Drop)]
+#[derive(Clone, Copy)]
 pub(crate) enum Refused {
     NotRead,
     Memory,
@@ -16,6 +16,12 @@ pub(crate) enum Refused {
 
 impl From<AllocError> for Refused {
     fn from(_: AllocError) -> Refused {
+        Refused::Memory
+    }
+}
+
+impl<T: Drop> From<AllocFailed<T>> for Refused {
+    fn from(_: AllocFailed<T>) -> Refused {
         Refused::Memory
     }
 }
@@ -34,7 +40,7 @@ fn octets_in(alloc: Global, digits: &str) -> Result<Vec<u8>, Refused> {
 }
 
 /// The block of an entry that must have one.
-pub(crate) fn block_of(block: Option<Vec<u8>>) -> Result<Vec<u8>, Refused> {
+pub(crate) fn block_of(block: Option<&[u8]>) -> Result<&[u8], Refused> {
     block.ok_or(Refused::NotRead)
 }
 
@@ -46,95 +52,132 @@ pub(crate) fn name_in(text: &str) -> Result<&str, Refused> {
     Ok(text)
 }
 
+// The name that is all of a text, to keep.
+fn own_name(alloc: Global, text: &str) -> Result<String, Refused> {
+    String::from_str(alloc, name_in(text)?).map_err(Refused::from)
+}
+
+/// The first word of a line, and what stands behind it and a space.
+pub(crate) fn word_and_rest(line: &str) -> (&str, &str) {
+    line.split_once(' ').unwrap_or((line, ""))
+}
+
+fn text_in(octets: &[u8]) -> Result<&str, Refused> {
+    str::from_utf8(octets).ok().ok_or(Refused::NotRead)
+}
+
 // Appends the pieces that a text says: the octets of the digits of each line.
 fn push_pieces(alloc: Global, says: &mut Vec<Vec<u8>>, text: &[u8]) -> Result<(), Refused> {
-    for line in text.split(|octet| *octet == b'\n') {
-        let digits = str::from_utf8(line).map_err(|_| Refused::NotRead)?;
-        let octets = octets_in(alloc, digits)?;
-        says.push(octets).map_err(AllocError::from)?;
+    for line in text_in(text)?.split('\n') {
+        says.push(octets_in(alloc, line)?)?;
     }
     Ok(())
 }
 
-// What a call is of that fails, and the rest: `read NAME N`, `file NAME N`, `recv NAME N`,
-// `send NAME N`, `write N`, `accept N`, `clock N`, `start N`. The name is empty for those without.
-fn failing_in<'a>(word: &str, rest: &'a str) -> Result<(Device, &'a str, &'a str), Refused> {
-    let device = match word {
-        "write" => return Ok((Device::Write, "-", rest)),
-        "accept" => return Ok((Device::Accept, "", rest)),
-        "clock" => return Ok((Device::Clock, "", rest)),
-        "start" => return Ok((Device::Start, "", rest)),
-        "read" => Device::Read,
-        "file" => Device::Write,
-        "recv" => Device::Recv,
-        "send" => Device::Send,
-        _ => return Err(Refused::NotRead),
-    };
-    let (name, number) = rest.split_once(' ').ok_or(Refused::NotRead)?;
-    Ok((device, name, number))
+// What `shows any` and `shows N octets` want.
+fn loosely_wanted(rest: &str) -> Result<Wanted, Refused> {
+    match rest.strip_suffix(" octets") {
+        Some(number) => Ok(Wanted::Count(number_in(number)?)),
+        None if rest == "any" => Ok(Wanted::Any),
+        None => Err(Refused::NotRead),
+    }
 }
 
 impl Case {
-    // `shows`, `shows octets HEX`, `shows N octets`.
+    // `shows`, a block; `shows any`, `shows octets HEX`, `shows N octets`.
     fn take_shows(
         &mut self,
         alloc: Global,
         rest: &str,
-        block: Option<Vec<u8>>,
+        block: Option<&[u8]>,
     ) -> Result<(), Refused> {
-        if rest.is_empty() {
-            self.wanted = Wanted::Octets(block_of(block)?);
-            return Ok(());
+        match block {
+            Some(block) if rest.is_empty() => self.wants(alloc, block),
+            Some(_) => Err(Refused::NotRead),
+            None => self.take_shown(alloc, rest),
         }
-        if block.is_some() {
-            return Err(Refused::NotRead);
+    }
+
+    /// Wants these octets.
+    pub(crate) fn wants(&mut self, alloc: Global, octets: &[u8]) -> Result<(), Refused> {
+        self.wanted = Wanted::Octets(Vec::from_slice(alloc, octets)?);
+        Ok(())
+    }
+
+    // `shows any`, `shows octets HEX`, `shows N octets`.
+    fn take_shown(&mut self, alloc: Global, rest: &str) -> Result<(), Refused> {
+        match rest.strip_prefix("octets ") {
+            Some(digits) => self.wants_more(&octets_in(alloc, digits)?),
+            None => self.wants_loosely(rest),
         }
-        if rest == "any" {
-            self.wanted = Wanted::Any;
-            return Ok(());
-        }
-        if let Some(digits) = rest.strip_prefix("octets ") {
-            return self.wants_more(&octets_in(alloc, digits)?);
-        }
-        let number = rest.strip_suffix(" octets").ok_or(Refused::NotRead)?;
-        self.wanted = Wanted::Count(number_in(number)?);
+    }
+
+    fn wants_loosely(&mut self, rest: &str) -> Result<(), Refused> {
+        self.wanted = loosely_wanted(rest)?;
         Ok(())
     }
 
     // Appends octets to those that are wanted.
     fn wants_more(&mut self, octets: &[u8]) -> Result<(), Refused> {
         match &mut self.wanted {
-            Wanted::Octets(wanted) => wanted.extend_from_slice(octets)?,
-            Wanted::Count(_) | Wanted::Any => return Err(Refused::NotRead),
+            Wanted::Octets(wanted) => wanted.extend_from_slice(octets).map_err(Refused::from),
+            Wanted::Count(_) | Wanted::Any => Err(Refused::NotRead),
         }
-        Ok(())
     }
 
     // `writes NAME`: a file that takes a block, or nothing; `writes any NAME`: whatever comes.
-    fn take_file(&mut self, alloc: Global, rest: &str, octets: Vec<u8>) -> Result<(), Refused> {
-        let any = rest.strip_prefix("any ");
-        let file = WantedFile {
-            name: String::from_str(alloc, name_in(any.unwrap_or(rest))?)?,
-            octets: if any.is_some() { None } else { Some(octets) },
-        };
-        self.files.push(file).map_err(AllocError::from)?;
-        Ok(())
+    fn take_file(&mut self, alloc: Global, rest: &str, octets: &[u8]) -> Result<(), Refused> {
+        match rest.strip_prefix("any ") {
+            Some(name) => self.add_file(alloc, name, None),
+            None => self.add_file(alloc, rest, Some(Vec::from_slice(alloc, octets)?)),
+        }
+    }
+
+    fn add_file(
+        &mut self,
+        alloc: Global,
+        name: &str,
+        octets: Option<Vec<u8>>,
+    ) -> Result<(), Refused> {
+        let name = own_name(alloc, name)?;
+        let file = WantedFile { name, octets };
+        self.files.push(file).map_err(Refused::from)
+    }
+
+    // Appends the pieces that an input says.
+    fn push_input(
+        &self,
+        alloc: Global,
+        says: &mut Vec<Vec<u8>>,
+        name: &str,
+    ) -> Result<(), Refused> {
+        let input = self.input(name).ok_or(Refused::NotRead)?;
+        push_pieces(alloc, says, &input.octets(alloc)?)
+    }
+
+    // The pieces that these inputs say, and behind them a block.
+    fn pieces_of(
+        &self,
+        alloc: Global,
+        inputs: &str,
+        block: Option<&[u8]>,
+    ) -> Result<Vec<Vec<u8>>, Refused> {
+        let mut says = Vec::new(alloc);
+        for input in inputs.split_whitespace() {
+            self.push_input(alloc, &mut says, input)?;
+        }
+        if let Some(block) = block {
+            push_pieces(alloc, &mut says, block)?;
+        }
+        Ok(says)
     }
 
     // The node of a line `NAME`, which says a block, or `NAME INPUT ..`, which says these inputs.
-    fn node_in(&self, alloc: Global, rest: &str, block: Option<Vec<u8>>) -> Result<Node, Refused> {
-        let (name, inputs) = rest.split_once(' ').unwrap_or((rest, ""));
-        let mut says = Vec::new(alloc);
-        for input in inputs.split_whitespace() {
-            let text = self.text_of(alloc, input)?.ok_or(Refused::NotRead)?;
-            push_pieces(alloc, &mut says, &text)?;
-        }
-        if let Some(block) = block {
-            push_pieces(alloc, &mut says, &block)?;
-        }
+    fn node_in(&self, alloc: Global, rest: &str, block: Option<&[u8]>) -> Result<Node, Refused> {
+        let (name, inputs) = word_and_rest(rest);
         Ok(Node {
-            name: String::from_str(alloc, name_in(name)?)?,
-            says,
+            name: own_name(alloc, name)?,
+            says: self.pieces_of(alloc, inputs, block)?,
             takes: None,
         })
     }
@@ -144,11 +187,10 @@ impl Case {
         &mut self,
         alloc: Global,
         rest: &str,
-        block: Option<Vec<u8>>,
+        block: Option<&[u8]>,
     ) -> Result<(), Refused> {
         let node = self.node_in(alloc, rest, block)?;
-        self.network.nodes.push(node).map_err(AllocError::from)?;
-        Ok(())
+        self.network.nodes.push(node).map_err(Refused::from)
     }
 
     // `connects NAME INPUT ..` behind `listens ADDRESS`: a node that connects there.
@@ -156,135 +198,190 @@ impl Case {
         &mut self,
         alloc: Global,
         rest: &str,
-        block: Option<Vec<u8>>,
+        block: Option<&[u8]>,
     ) -> Result<(), Refused> {
         let node = self.node_in(alloc, rest, block)?;
-        let listening = self.network.listens.last_mut().ok_or(Refused::NotRead)?;
-        listening.nodes.push(node).map_err(AllocError::from)?;
-        Ok(())
+        match self.network.listens.last_mut() {
+            Some(listening) => listening.nodes.push(node).map_err(Refused::from),
+            None => Err(Refused::NotRead),
+        }
     }
 
     // `takes NAME` behind `node NAME` or `connects NAME`: what that node must take.
     fn take_taken(&mut self, alloc: Global, name: &str, block: &[u8]) -> Result<(), Refused> {
-        let digits = str::from_utf8(block).map_err(|_| Refused::NotRead)?;
-        let octets = octets_in(alloc, digits)?;
+        let digits = text_in(block)?;
         let node = self.network.node_named(name).ok_or(Refused::NotRead)?;
-        node.takes = Some(octets);
+        node.takes = Some(octets_in(alloc, digits)?);
         Ok(())
     }
 
     // `clock N ..`: what the clock shows.
     fn take_clock(&mut self, rest: &str) -> Result<(), Refused> {
         for word in rest.split_whitespace() {
-            let reading = number_in(word)?;
-            self.network
-                .readings
-                .push(reading)
-                .map_err(AllocError::from)?;
+            self.network.readings.push(number_in(word)?)?;
         }
         Ok(())
     }
 
     // `listens ADDRESS`: an address at which nodes may connect.
     fn take_listens(&mut self, alloc: Global, address: &str) -> Result<(), Refused> {
-        let listening = Listening {
-            address: String::from_str(alloc, name_in(address)?)?,
-            nodes: Vec::new(alloc),
-        };
-        self.network
-            .listens
-            .push(listening)
-            .map_err(AllocError::from)?;
-        Ok(())
+        let address = own_name(alloc, address)?;
+        let nodes = Vec::new(alloc);
+        let listening = Listening { address, nodes };
+        self.network.listens.push(listening).map_err(Refused::from)
+    }
+
+    fn has_file(&self, name: &str) -> bool {
+        for file in &self.files {
+            if file.name.as_str() == name {
+                return true;
+            }
+        }
+        false
     }
 
     // Whether there is what a failing call may be of, where an earlier line must say so.
     fn is_known(&mut self, device: Device, name: &str) -> bool {
         match device {
-            Device::Write => {
-                name == "-" || self.files.iter().any(|file| file.name.as_str() == name)
-            }
+            Device::Write => name == "-" || self.has_file(name),
             Device::Recv | Device::Send => self.network.node_named(name).is_some(),
             Device::Accept => !self.network.listens.is_empty(),
             Device::Read | Device::Clock | Device::Start => true,
         }
     }
 
-    // `fails ..`: a call that fails.
-    fn take_fails(&mut self, alloc: Global, rest: &str) -> Result<(), Refused> {
-        let (word, rest) = rest.split_once(' ').ok_or(Refused::NotRead)?;
-        let (device, name, number) = failing_in(word, rest)?;
+    // The call with this number fails.
+    fn fail(
+        &mut self,
+        alloc: Global,
+        device: Device,
+        name: &str,
+        number: &str,
+    ) -> Result<(), Refused> {
         if !self.is_known(device, name) {
             return Err(Refused::NotRead);
         }
+        let number = number_in(number)?;
+        let name = String::from_str(alloc, name)?;
         let failing = Failing {
             device,
-            name: String::from_str(alloc, name)?,
-            number: number_in(number)?,
+            name,
+            number,
         };
-        self.failing.push(failing).map_err(AllocError::from)?;
-        Ok(())
+        self.failing.push(failing).map_err(Refused::from)
     }
 
-    /// Appends octets to an own input.
-    pub(crate) fn take_input(
+    // `fails read NAME N`, `fails file NAME N`, `fails recv NAME N`, `fails send NAME N`.
+    fn fail_named(&mut self, alloc: Global, word: &str, rest: &str) -> Result<(), Refused> {
+        let (name, number) = rest.split_once(' ').ok_or(Refused::NotRead)?;
+        match word {
+            "read" => self.fail(alloc, Device::Read, name, number),
+            "file" => self.fail(alloc, Device::Write, name, number),
+            "recv" => self.fail(alloc, Device::Recv, name, number),
+            "send" => self.fail(alloc, Device::Send, name, number),
+            _ => Err(Refused::NotRead),
+        }
+    }
+
+    // `fails write N`, `fails accept N`, `fails clock N`, `fails start N`, or a call that is named.
+    fn take_fails(&mut self, alloc: Global, rest: &str) -> Result<(), Refused> {
+        let (word, rest) = word_and_rest(rest);
+        match word {
+            "write" => self.fail(alloc, Device::Write, "-", rest),
+            "accept" => self.fail(alloc, Device::Accept, "", rest),
+            "clock" => self.fail(alloc, Device::Clock, "", rest),
+            "start" => self.fail(alloc, Device::Start, "", rest),
+            _ => self.fail_named(alloc, word, rest),
+        }
+    }
+
+    // Appends octets to an own input, so many times.
+    fn take_input(
         &mut self,
         alloc: Global,
         name: &str,
-        octets: Vec<u8>,
+        octets: &[u8],
         times: u64,
     ) -> Result<(), Refused> {
-        append_to(alloc, &mut self.own, name_in(name)?, octets, times)?;
+        let name = name_in(name)?;
+        append_to(alloc, &mut self.own, name, octets, times)
+    }
+
+    /// Appends octets to the input that the words are about.
+    pub(crate) fn take_subject(&mut self, alloc: Global, octets: &[u8]) -> Result<(), Refused> {
+        let name = String::from_str(alloc, subject(&self.words))?;
+        self.take_input(alloc, &name, octets, 1)
+    }
+
+    // `repeat N NAME`, a block.
+    fn take_repeat(
+        &mut self,
+        alloc: Global,
+        rest: &str,
+        block: Option<&[u8]>,
+    ) -> Result<(), Refused> {
+        let (number, name) = word_and_rest(rest);
+        self.take_input(alloc, name, block_of(block)?, number_in(number)?)
+    }
+
+    // `octets NAME HEX`.
+    fn take_octets(&mut self, alloc: Global, rest: &str) -> Result<(), Refused> {
+        let (name, digits) = word_and_rest(rest);
+        self.take_input(alloc, name, &octets_in(alloc, digits)?, 1)
+    }
+
+    fn take_words(&mut self, alloc: Global, rest: &str) -> Result<(), Refused> {
+        self.words = words_in(alloc, rest)?;
         Ok(())
     }
 
-    // An entry that has a block.
-    fn take_block(
-        &mut self,
-        alloc: Global,
-        word: &str,
-        rest: &str,
-        block: Vec<u8>,
-    ) -> Result<(), Refused> {
+    fn take_number(&mut self, word: &str, number: u64) -> Result<(), Refused> {
         match word {
-            "text" => self.take_input(alloc, rest, block, 1),
-            "writes" => self.take_file(alloc, rest, block),
-            "node" => self.take_node(alloc, rest, Some(block)),
-            "connects" => self.take_connects(alloc, rest, Some(block)),
-            "takes" => self.take_taken(alloc, rest, &block),
-            "repeat" => {
-                let (number, name) = rest.split_once(' ').ok_or(Refused::NotRead)?;
-                self.take_input(alloc, name, block, number_in(number)?)
-            }
-            _ => Err(Refused::NotRead),
+            "meet" => self.network.meeting = Some(number),
+            "room" => self.room = Some(number),
+            "status" => self.status = number,
+            _ => return Err(Refused::NotRead),
         }
+        Ok(())
+    }
+
+    // An entry of one line that says a number, or only its word.
+    fn take_mark(&mut self, word: &str, rest: &str) -> Result<(), Refused> {
+        match word {
+            "cuts" => self.is_cut = true,
+            "faults" => self.is_faulted = true,
+            _ => return self.take_number(word, number_in(rest)?),
+        }
+        Ok(())
     }
 
     // An entry of one line.
     fn take_line(&mut self, alloc: Global, word: &str, rest: &str) -> Result<(), Refused> {
         match word {
-            "words" => self.words = words_in(alloc, rest)?,
-            "octets" => {
-                let (name, digits) = rest.split_once(' ').unwrap_or((rest, ""));
-                self.take_input(alloc, name, octets_in(alloc, digits)?, 1)?;
-            }
-            // An empty text.
-            "text" => self.take_input(alloc, rest, Vec::new(alloc), 1)?,
-            "writes" => self.take_file(alloc, rest, Vec::new(alloc))?,
-            "fails" => self.take_fails(alloc, rest)?,
-            "node" => self.take_node(alloc, rest, None)?,
-            "listens" => self.take_listens(alloc, rest)?,
-            "connects" => self.take_connects(alloc, rest, None)?,
-            "takes" => self.take_taken(alloc, rest, b"")?,
-            "meet" => self.network.meeting = Some(number_in(rest)?),
-            "clock" => self.take_clock(rest)?,
-            "room" => self.room = Some(number_in(rest)?),
-            "cuts" => self.is_cut = true,
-            "faults" => self.is_faulted = true,
-            "status" => self.status = number_in(rest)?,
-            _ => return Err(Refused::NotRead),
+            "words" => self.take_words(alloc, rest),
+            "octets" => self.take_octets(alloc, rest),
+            "fails" => self.take_fails(alloc, rest),
+            "listens" => self.take_listens(alloc, rest),
+            "clock" => self.take_clock(rest),
+            _ => self.take_mark(word, rest),
         }
-        Ok(())
+    }
+
+    // An entry of a node, or of one line.
+    fn take_peer(
+        &mut self,
+        alloc: Global,
+        word: &str,
+        rest: &str,
+        block: Option<&[u8]>,
+    ) -> Result<(), Refused> {
+        match word {
+            "node" => self.take_node(alloc, rest, block),
+            "connects" => self.take_connects(alloc, rest, block),
+            "takes" => self.take_taken(alloc, rest, block.unwrap_or(b"")),
+            _ if block.is_some() => Err(Refused::NotRead),
+            _ => self.take_line(alloc, word, rest),
+        }
     }
 
     /// An entry of a case: a line of this word and this rest, and its block.
@@ -293,14 +390,14 @@ impl Case {
         alloc: Global,
         word: &str,
         rest: &str,
-        block: Option<Vec<u8>>,
+        block: Option<&[u8]>,
     ) -> Result<(), Refused> {
-        if word == "shows" {
-            return self.take_shows(alloc, rest, block);
-        }
-        match block {
-            Some(block) => self.take_block(alloc, word, rest, block),
-            None => self.take_line(alloc, word, rest),
+        match word {
+            "shows" => self.take_shows(alloc, rest, block),
+            "text" => self.take_input(alloc, rest, block.unwrap_or(b""), 1),
+            "repeat" => self.take_repeat(alloc, rest, block),
+            "writes" => self.take_file(alloc, rest, block.unwrap_or(b"")),
+            _ => self.take_peer(alloc, word, rest, block),
         }
     }
 }

@@ -1,11 +1,11 @@
 //! The nodes, the addresses and the clock of a case.
 ghost use Rattle.std.specs.Prelude.{IfOk};
-ghost use Rattle.outside_links.specs.Links.{IsNewLink};
-ghost use Rattle.outside_links.specs.ScriptStates.{script_link_told, AllNewLinks};
+ghost use Rattle.outside.specs.Links.Links.{IsNewLink};
+ghost use Rattle.outside.specs.Links.ScriptStates.{script_link_told, AllNewLinks};
 
 use crate::failing::{Device, Failures};
-use outside_links::{LinkItem, ScriptClock, ScriptLink, ScriptListener};
-use outside_names::MemoryOutside;
+use outside::links::{LinkItem, ScriptClock, ScriptLink, ScriptListener};
+use outside::names::MemoryOutside;
 use std::alloc::{AllocError, Global};
 
 /// The most octets that a link takes at a send, and in all.
@@ -39,19 +39,36 @@ pub struct Network {
 }
 
 impl Node {
-    fn link(&self, alloc: Global, failures: Failures<'_>) -> Result<ScriptLink, AllocError>
-        ensures { IfOk result (λ link. IsNewLink (script_link_told link)) }
-    {
+    // What its link brings.
+    fn items(&self, alloc: Global) -> Result<Vec<LinkItem>, AllocError> {
         let mut items = Vec::new(alloc);
         for piece in &self.says {
             items.push(LinkItem::Piece(Vec::from_slice(alloc, piece)?))?;
         }
         items.push(LinkItem::End)?;
+        Ok(items)
+    }
+
+    fn link(&self, alloc: Global, failures: Failures<'_>) -> Result<ScriptLink, AllocError>
+        ensures { IfOk result (λ link. IsNewLink (script_link_told link)) }
+    {
+        let items = self.items(alloc)?;
         let recvs = failures.numbers(alloc, Device::Recv, &self.name)?;
         let sends = failures.numbers(alloc, Device::Send, &self.name)?;
         let mut link = ScriptLink::new(alloc, items, MOST_TAKEN, MOST_TAKEN, recvs, sends)?;
         link.set_name(String::from_str(alloc, &self.name)?);
         Ok(link)
+    }
+
+    // Puts it outside at its name.
+    fn put(
+        &self,
+        alloc: Global,
+        outside: &mut MemoryOutside,
+        failures: Failures<'_>,
+    ) -> Result<(), AllocError> {
+        let link = self.link(alloc, failures)?;
+        outside.put_link(alloc, &self.name, link)
     }
 }
 
@@ -81,6 +98,37 @@ impl Listening {
         let fails = failures.numbers(alloc, Device::Accept, "")?;
         ScriptListener::new(alloc, links, fails)
     }
+
+    // Puts it outside at its address.
+    fn put(
+        &self,
+        alloc: Global,
+        outside: &mut MemoryOutside,
+        failures: Failures<'_>,
+    ) -> Result<(), AllocError> {
+        let listener = self.listener(alloc, failures)?;
+        outside.put_listener(alloc, &self.address, listener)
+    }
+}
+
+// The node with this name among these.
+fn named_in<'a>(nodes: &'a mut [Node], name: &str) -> Option<&'a mut Node> {
+    for node in nodes {
+        if node.name.as_str() == name {
+            return Some(node);
+        }
+    }
+    None
+}
+
+// The node with this name among those that connect.
+fn connecting_named<'a>(listens: &'a mut [Listening], name: &str) -> Option<&'a mut Node> {
+    for listening in listens {
+        if let Some(node) = named_in(&mut listening.nodes, name) {
+            return Some(node);
+        }
+    }
+    None
 }
 
 impl Network {
@@ -96,19 +144,10 @@ impl Network {
 
     /// The node with this name.
     pub(crate) fn node_named(&mut self, name: &str) -> Option<&mut Node> {
-        for node in self.nodes.iter_mut() {
-            if node.name.as_str() == name {
-                return Some(node);
-            }
+        match named_in(&mut self.nodes, name) {
+            Some(node) => Some(node),
+            None => connecting_named(&mut self.listens, name),
         }
-        for listening in self.listens.iter_mut() {
-            for node in listening.nodes.iter_mut() {
-                if node.name.as_str() == name {
-                    return Some(node);
-                }
-            }
-        }
-        None
     }
 
     /// Puts all of it outside, with the calls that fail.
@@ -119,12 +158,10 @@ impl Network {
         failures: Failures<'_>,
     ) -> Result<(), AllocError> {
         for node in &self.nodes {
-            let link = node.link(alloc, failures)?;
-            outside.put_link(alloc, node.name.as_str(), link)?;
+            node.put(alloc, outside, failures)?;
         }
         for listening in &self.listens {
-            let listener = listening.listener(alloc, failures)?;
-            outside.put_listener(alloc, listening.address.as_str(), listener)?;
+            listening.put(alloc, outside, failures)?;
         }
         let readings = Vec::from_slice(alloc, &self.readings)?;
         let fails = failures.numbers(alloc, Device::Clock, "")?;

@@ -1,9 +1,9 @@
 //! How case files are read.
 
-use crate::cases::{Case, Wanted, subject};
+use crate::cases::Case;
 use crate::entries::{Entry, entries_in};
 use crate::inputs::{Input, append_to};
-use crate::lines::{Refused, block_of, name_in, number_in};
+use crate::lines::{Refused, block_of, name_in, number_in, word_and_rest};
 use std::alloc::{AllocError, Global};
 
 /// A line that isn't read.
@@ -29,12 +29,14 @@ struct Rows {
 }
 
 // What stands open behind the entries so far.
-#[derive(Drop)]
+#[derive(Clone, Copy)]
 enum Within {
     /// The head of a file.
     Head,
-    Case(Case),
-    Rows(Rows),
+    /// The last case.
+    Case,
+    /// Rows.
+    Rows,
 }
 
 #[derive(Drop)]
@@ -44,6 +46,7 @@ struct Reader {
     /// The words of a case that gives none.
     words: String,
     given: Vec<Input>,
+    rows: Rows,
     within: Within,
     sheet: Sheet,
 }
@@ -61,164 +64,200 @@ fn lines_in(alloc: Global, column: &str) -> Result<Vec<u8>, AllocError> {
     Ok(text)
 }
 
-// The four columns of a row.
-fn columns_in(row: &str) -> Option<(&str, &str, &str, &str)> {
-    let columns = row.strip_prefix("| ")?.strip_suffix(" |")?;
-    let (input, rest) = columns.split_once(" | ")?;
-    let (status, rest) = rest.split_once(" | ")?;
-    let (output, title) = rest.split_once(" | ")?;
-    Some((input, status, output, title))
+// The columns of a row.
+fn columns_in(alloc: Global, row: &str) -> Result<Vec<&str>, Refused> {
+    let row = row.strip_prefix("| ").ok_or(Refused::NotRead)?;
+    let row = row.strip_suffix(" |").ok_or(Refused::NotRead)?;
+    row.split(" | ").collect(alloc).map_err(Refused::from)
+}
+
+impl Case {
+    // The input that the words are about, what must come out, and the status, by their columns.
+    fn take_columns(
+        &mut self,
+        alloc: Global,
+        input: &str,
+        status: &str,
+        output: &str,
+    ) -> Result<(), Refused> {
+        self.take_subject(alloc, &lines_in(alloc, input)?)?;
+        self.wants(alloc, &lines_in(alloc, output)?)?;
+        self.status = number_in(status.trim())?;
+        Ok(())
+    }
 }
 
 impl Rows {
-    // The case of a row.
-    fn case_of(
-        &self,
-        alloc: Global,
-        file: &str,
-        given: &[Input],
-        row: &str,
-    ) -> Result<Case, Refused> {
-        let (input, status, output, title) = columns_in(row).ok_or(Refused::NotRead)?;
-        if title.contains(" | ") {
-            return Err(Refused::NotRead);
+    fn new(words: String) -> Rows {
+        Rows {
+            words,
+            is_cut: false,
+            is_faulted: false,
         }
-        let mut case = Case::new(alloc, file, title, &self.words, given)?;
-        let name = String::from_str(alloc, subject(&case.words))?;
-        case.take_input(alloc, &name, lines_in(alloc, input)?, 1)?;
-        case.is_cut = self.is_cut;
-        case.is_faulted = self.is_faulted;
-        case.wanted = Wanted::Octets(lines_in(alloc, output)?);
-        case.status = number_in(status.trim())?;
-        Ok(case)
+    }
+
+    fn take(&mut self, word: &str) -> Result<(), Refused> {
+        match word {
+            "cuts" => self.is_cut = true,
+            "faults" => self.is_faulted = true,
+            _ => return Err(Refused::NotRead),
+        }
+        Ok(())
     }
 }
 
 impl Reader {
-    // Ends what stands open.
-    fn close(&mut self, next: Within) -> Result<(), AllocError> {
-        if let Within::Case(case) = std::mem::replace(&mut self.within, next) {
-            self.sheet.cases.push(case)?;
+    fn new(alloc: Global) -> Reader {
+        Reader {
+            alloc,
+            file: String::new(alloc),
+            words: String::new(alloc),
+            given: Vec::new(alloc),
+            rows: Rows::new(String::new(alloc)),
+            within: Within::Head,
+            sheet: Sheet {
+                cases: Vec::new(alloc),
+                bad_lines: Vec::new(alloc),
+            },
         }
-        Ok(())
     }
 
-    fn begin_file(&mut self, name: &str) -> Result<(), AllocError> {
-        self.close(Within::Head)?;
+    // A case with this title and these words.
+    fn case_of(&self, title: &str, words: &str) -> Result<Case, AllocError> {
+        Case::new(self.alloc, &self.file, title, words, &self.given)
+    }
+
+    fn begin_file(&mut self, name: &str) -> Result<(), Refused> {
+        self.within = Within::Head;
         self.file = String::from_str(self.alloc, name)?;
         self.words = String::new(self.alloc);
         self.given = Vec::new(self.alloc);
         Ok(())
     }
 
-    fn begin_case(&mut self, title: &str) -> Result<(), AllocError> {
-        let case = Case::new(self.alloc, &self.file, title, &self.words, &self.given)?;
-        self.close(Within::Case(case))
+    fn begin_case(&mut self, title: &str) -> Result<(), Refused> {
+        let case = self.case_of(title, &self.words)?;
+        self.within = Within::Case;
+        self.sheet.cases.push(case).map_err(Refused::from)
     }
 
-    fn begin_rows(&mut self, words: &str) -> Result<(), AllocError> {
-        let words = String::from_str(self.alloc, words)?;
-        self.close(Within::Rows(Rows {
-            words,
-            is_cut: false,
-            is_faulted: false,
-        }))
+    fn begin_rows(&mut self, words: &str) -> Result<(), Refused> {
+        self.rows = Rows::new(String::from_str(self.alloc, words)?);
+        self.within = Within::Rows;
+        Ok(())
     }
 
     // Gives an input to the cases that follow, in place of what had its name.
-    fn give(&mut self, name: &str, block: Vec<u8>) -> Result<(), Refused> {
+    fn give(&mut self, name: &str, block: Option<&[u8]>) -> Result<(), Refused> {
+        let block = block_of(block)?;
         let name = name_in(name)?;
-        self.close(Within::Head)?;
+        self.within = Within::Head;
         self.given.retain(|input| input.name.as_str() != name);
-        append_to(self.alloc, &mut self.given, name, block, 1)?;
-        Ok(())
+        append_to(self.alloc, &mut self.given, name, block, 1)
     }
 
-    fn take_row(&mut self, row: &str) -> Result<(), Refused> {
-        let Within::Rows(rows) = &self.within else {
-            return Err(Refused::NotRead);
-        };
-        let case = rows.case_of(self.alloc, &self.file, &self.given, row)?;
-        self.sheet.cases.push(case).map_err(AllocError::from)?;
-        Ok(())
+    // The case of a row of these columns.
+    fn row_of(
+        &self,
+        input: &str,
+        status: &str,
+        output: &str,
+        title: &str,
+    ) -> Result<Case, Refused> {
+        let mut case = self.case_of(title, &self.rows.words)?;
+        case.take_columns(self.alloc, input, status, output)?;
+        case.is_cut = self.rows.is_cut;
+        case.is_faulted = self.rows.is_faulted;
+        Ok(case)
     }
 
-    // An entry of what stands open.
-    fn take_within(
-        &mut self,
-        word: &str,
-        rest: &str,
-        block: Option<Vec<u8>>,
-    ) -> Result<(), Refused> {
-        match &mut self.within {
-            Within::Case(case) => case.take(self.alloc, word, rest, block),
-            Within::Rows(rows) if word == "cuts" => {
-                rows.is_cut = true;
-                Ok(())
-            }
-            Within::Rows(rows) if word == "faults" => {
-                rows.is_faulted = true;
-                Ok(())
-            }
-            Within::Head if word == "words" => {
-                self.words = String::from_str(self.alloc, rest)?;
-                Ok(())
-            }
+    fn row_in(&self, row: &str) -> Result<Case, Refused> {
+        let columns = columns_in(self.alloc, row)?;
+        match columns.as_slice() {
+            [input, status, output, title] => self.row_of(input, status, output, title),
             _ => Err(Refused::NotRead),
         }
     }
 
-    fn take(&mut self, head: &str, block: Option<Vec<u8>>) -> Result<(), Refused> {
-        if head.starts_with("|") {
-            return self.take_row(head);
+    fn take_row(&mut self, row: &str) -> Result<(), Refused> {
+        let case = match self.within {
+            Within::Rows => self.row_in(row)?,
+            Within::Head | Within::Case => return Err(Refused::NotRead),
+        };
+        self.sheet.cases.push(case).map_err(Refused::from)
+    }
+
+    // An entry of the last case.
+    fn take_in_case(
+        &mut self,
+        word: &str,
+        rest: &str,
+        block: Option<&[u8]>,
+    ) -> Result<(), Refused> {
+        match self.sheet.cases.last_mut() {
+            Some(case) => case.take(self.alloc, word, rest, block),
+            None => Err(Refused::NotRead),
         }
-        let (word, rest) = head.split_once(' ').unwrap_or((head, ""));
-        match word {
-            "file" => self.begin_file(rest)?,
-            "case" => self.begin_case(rest)?,
-            "rows" => self.begin_rows(rest)?,
-            "given" => self.give(rest, block_of(block)?)?,
-            _ => self.take_within(word, rest, block)?,
+    }
+
+    // An entry of the head of a file.
+    fn take_in_head(&mut self, word: &str, rest: &str) -> Result<(), Refused> {
+        if word != "words" {
+            return Err(Refused::NotRead);
         }
+        self.words = String::from_str(self.alloc, rest)?;
         Ok(())
     }
 
-    fn take_entry(&mut self, entry: Entry) -> Result<(), AllocError> {
-        let Entry {
-            number,
-            head,
-            block,
-        } = entry;
-        match self.take(&head, block) {
+    // An entry of what stands open.
+    fn take_within(&mut self, word: &str, rest: &str, block: Option<&[u8]>) -> Result<(), Refused> {
+        match self.within {
+            Within::Head => self.take_in_head(word, rest),
+            Within::Case => self.take_in_case(word, rest, block),
+            Within::Rows => self.rows.take(word),
+        }
+    }
+
+    fn take(&mut self, head: &str, block: Option<&[u8]>) -> Result<(), Refused> {
+        if head.starts_with("|") {
+            return self.take_row(head);
+        }
+        let (word, rest) = word_and_rest(head);
+        match word {
+            "file" => self.begin_file(rest),
+            "case" => self.begin_case(rest),
+            "rows" => self.begin_rows(rest),
+            "given" => self.give(rest, block),
+            _ => self.take_within(word, rest, block),
+        }
+    }
+
+    fn take_entry(&mut self, entry: &Entry) -> Result<(), AllocError> {
+        match self.take(&entry.head, entry.block()) {
             Ok(()) => Ok(()),
             Err(Refused::Memory) => Err(AllocError),
-            Err(Refused::NotRead) => self.refuse(number),
+            Err(Refused::NotRead) => self.refuse(entry.number),
         }
+    }
+
+    fn take_all(&mut self, entries: &[Entry]) -> Result<(), AllocError> {
+        for entry in entries {
+            self.take_entry(entry)?;
+        }
+        Ok(())
     }
 
     fn refuse(&mut self, number: u64) -> Result<(), AllocError> {
         let file = self.file.clone()?;
-        self.sheet.bad_lines.push(BadLine { file, number })?;
-        Ok(())
+        let line = BadLine { file, number };
+        self.sheet.bad_lines.push(line).map_err(AllocError::from)
     }
 }
 
 /// Reads case files, each behind a line `file NAME`.
 pub fn read_cases(alloc: Global, text: &str) -> Result<Sheet, AllocError> {
-    let mut reader = Reader {
-        alloc,
-        file: String::new(alloc),
-        words: String::new(alloc),
-        given: Vec::new(alloc),
-        within: Within::Head,
-        sheet: Sheet {
-            cases: Vec::new(alloc),
-            bad_lines: Vec::new(alloc),
-        },
-    };
-    for entry in entries_in(alloc, text)? {
-        reader.take_entry(entry)?;
-    }
-    reader.close(Within::Head)?;
+    let entries = entries_in(alloc, text)?;
+    let mut reader = Reader::new(alloc);
+    reader.take_all(&entries)?;
     Ok(reader.sheet)
 }

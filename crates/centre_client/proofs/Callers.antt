@@ -13,13 +13,13 @@ use Rattle.tpkt_cotp.specs.declared.turn.Role as transports
 use Rattle.tpkt_cotp.specs.declared.turn.Role.TheVariants as sorts
 use Rattle.tpkt_cotp.specs.Written.{connection_request_octets}
 use Rattle.mms_services.specs.declared.pdu.MmsPdu.TheVariants as pdus
-use Rattle.stack_messages.specs.declared.expecting.Side.{Side}
-use Rattle.stack_messages.specs.declared.expecting.Side.TheVariants as sides
-use Rattle.stack_messages.specs.declared.fault.StackFault.{StackFault}
-use Rattle.stack_messages.specs.declared.heard.Connecting.{Connecting}
-use Rattle.stack_messages.specs.declared.heard.Heard.{Heard}
-use Rattle.stack_messages.specs.declared.heard.Heard.TheVariants as heards
-use Rattle.stack_wire.specs.declared.setup.AssociationSetup.{AssociationSetup}
+use Rattle.stack_assoc.specs.declared.messages.expecting.Side.{Side}
+use Rattle.stack_assoc.specs.declared.messages.expecting.Side.TheVariants as sides
+use Rattle.stack_assoc.specs.declared.messages.fault.StackFault.{StackFault}
+use Rattle.stack_assoc.specs.declared.messages.heard.Connecting.{Connecting}
+use Rattle.stack_assoc.specs.declared.messages.heard.Heard.{Heard}
+use Rattle.stack_assoc.specs.declared.messages.heard.Heard.TheVariants as heards
+use Rattle.stack_assoc.specs.declared.wire.setup.AssociationSetup.{AssociationSetup}
 use Rattle.stack_assoc.specs.declared.input.StackIn.{StackIn}
 use Rattle.stack_assoc.specs.declared.input.StackIn.TheVariants as inputs
 use Rattle.stack_assoc.specs.declared.input.StackState.TheVariants as states
@@ -41,8 +41,8 @@ use Rattle.stack_assoc.proofs.StreamLaws.{front_front, fault_stays}
 use Rattle.stack_assoc.proofs.SaidMore.{stands_said, stands_standing}
 use Rattle.bilateral.specs.Rows.{CentreRows, table_of}
 use Rattle.tase_views.specs.declared.call.CallKind.{CallKind}
-use Rattle.tase_map.specs.LawfulTold.{IsLawfulTold, IsLawfulHeard}
-use Rattle.tase_map.proofs.LawfulMessages.{told_lawful}
+use Rattle.tase_conn.specs.Map.LawfulTold.{IsLawfulTold, IsLawfulHeard}
+use Rattle.tase_conn.proofs.OfMap.LawfulMessages.{told_lawful}
 use Rattle.centre_client.specs.declared.calling.CallingEnd.{CallingEnd}
 use Rattle.centre_client.specs.declared.script.Script.{Script}
 use Rattle.centre_client.specs.declared.end.ClientEnd.{ClientEnd}

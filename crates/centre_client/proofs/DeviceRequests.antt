@@ -12,15 +12,15 @@ use Rattle.mms_data.specs.Datum.{Datum, integer}
 use Rattle.mms_data.specs.NameOctets.{name_octets}
 use Rattle.mms_data.specs.ObjectName.{ObjectName, IsIdentifier}
 use Rattle.mms_data.specs.declared.object_name.Scope.TheVariants.{Domain}
-use Rattle.mms_access.specs.declared.spec.Spec.TheVariants as specs
-use Rattle.mms_access.specs.Specifications.{variable_octets, variables_octets, spec_octets}
-use Rattle.mms_access.specs.Reads.{echo_octets, read_request_octets}
-use Rattle.mms_access.specs.Writes.{values_octets, write_request_octets}
+use Rattle.mms_services.specs.declared.access.spec.Spec.TheVariants as specs
+use Rattle.mms_services.specs.Access.Specifications.{variable_octets, variables_octets, spec_octets}
+use Rattle.mms_services.specs.Access.Reads.{echo_octets, read_request_octets}
+use Rattle.mms_services.specs.Access.Writes.{values_octets, write_request_octets}
 use Rattle.mms_services.specs.PduOctets.{invoke_octets, request_octets, pdu_octets}
-use Rattle.stack_wire.proofs.Sizes.{written-most}
-use Rattle.table_words.specs.Words.{is_name}
-use Rattle.table_words.specs.declared.words.TheConstants.{NAME_LIMIT}
-use Rattle.table_words.proofs.VisibleWords.{IsVisible-from_name}
+use Rattle.stack_assoc.proofs.OfWire.Sizes.{written-most}
+use Rattle.bilateral.specs.Words.Words.{is_name}
+use Rattle.bilateral.specs.declared.words.words.TheConstants.{NAME_LIMIT}
+use Rattle.bilateral.proofs.OfWords.VisibleWords.{IsVisible-from_name}
 use Rattle.bilateral.specs.Rows.{CentreRows, table_of}
 use Rattle.tase_views.specs.declared.call.CallKind.{CallKind}
 use Rattle.tase_views.specs.declared.call.CallKind.TheVariants as calls

@@ -15,11 +15,11 @@ use Rattle.tpkt_cotp.specs.Places.{End, left, stopped, messages_of, stream_in}
 use Rattle.tpkt_cotp.specs.Streams.{Message, asks, confirms, tsdu}
 use Rattle.tpkt_cotp.specs.Streams as transport
 use Rattle.tpkt_cotp.proofs.Streaming.{says_left, stops_stopped, left_says, stopped_stops}
-use Rattle.stack_messages.specs.declared.expecting.Expecting.{Expecting}
-use Rattle.stack_messages.specs.declared.expecting.Side.TheVariants as sides
-use Rattle.stack_messages.specs.declared.fault.StackFault.{StackFault}
-use Rattle.stack_messages.specs.Messages.{message}
-use Rattle.stack_messages.proofs.OneMessage.{message_read}
+use Rattle.stack_assoc.specs.declared.messages.expecting.Expecting.{Expecting}
+use Rattle.stack_assoc.specs.declared.messages.expecting.Side.TheVariants as sides
+use Rattle.stack_assoc.specs.declared.messages.fault.StackFault.{StackFault}
+use Rattle.stack_assoc.specs.Messages.Messages.{message}
+use Rattle.stack_assoc.proofs.OfMessages.OneMessage.{message_read}
 use Rattle.stack_assoc.specs.Arrivals.{Arrival, asked, confirmed, gone, heard, Role, called}
 use Rattle.stack_assoc.specs.Arrivals.{calling, end_of, is_concluded}
 use Rattle.stack_assoc.specs.Expectations.{setup_after, phase_after, expecting_after}
@@ -32,7 +32,7 @@ use Rattle.stack_assoc.specs.Tellings.{transport_fault}
 use Rattle.stack_assoc.specs.declared.input.StackIn.{StackIn}
 use Rattle.stack_assoc.proofs.FrontsKept.{front_said, front_stopped}
 use Rattle.bilateral.specs.Rows.{CentreRows, table_of}
-use Rattle.tase_map.specs.Readings.{arrival_heard, broken_at_end}
+use Rattle.tase_conn.specs.Map.Readings.{arrival_heard, broken_at_end}
 use Rattle.centre_client.specs.declared.script.Script.{Script}
 use Rattle.centre_client.specs.declared.play.Awaiting.{Awaiting}
 use Rattle.centre_client.specs.declared.play.Awaiting.TheVariants as awaits

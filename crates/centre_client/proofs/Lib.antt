@@ -13,3 +13,4 @@ pub mod Callers
 pub mod Turned
 mod Worked
 mod WorkedClients
+pub mod OfService

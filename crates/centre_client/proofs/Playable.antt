@@ -10,14 +10,14 @@ use Rattle.std.proofs.lemmas.List.Elements.{All-cons, All-nil}
 use Rattle.std.proofs.lemmas.Bool.{leb-true}
 use Rattle.plain_text.specs.Numbers.{if_passes, number_in, number_up_to}
 use Rattle.plain_text.specs.Words.{words_in}
-use Rattle.table_words.specs.Devices.{short_in}
+use Rattle.bilateral.specs.Words.Devices.{short_in}
 use Rattle.bilateral.specs.declared.rows.DeviceRow.{DeviceRow}
 use Rattle.bilateral.specs.declared.rows.Table.{Table}
 use Rattle.bilateral.specs.Rows.{CentreRows, table_of, place_of_peer, place_of_device}
 use Rattle.bilateral.specs.Rows.{place_of_control, no_device, no_table}
 use Rattle.tase_views.specs.declared.call.CallKind.{CallKind}
-use Rattle.journal_text.specs.CallIn.{call_in}
-use Rattle.tase_map.specs.Asked.{is_odd}
+use Rattle.texts.specs.Journal.CallIn.{call_in}
+use Rattle.tase_conn.specs.Map.Asked.{is_odd}
 use Rattle.centre_client.specs.declared.fault.ScriptFault.{ScriptFault}
 use Rattle.centre_client.specs.declared.fault.ScriptWhy.{ScriptWhy}
 use Rattle.centre_client.specs.declared.fault.ScriptWhy.TheVariants.{Word, Unknown}

@@ -12,7 +12,7 @@ use Rattle.mms_services.specs.declared.request.Request.{Request}
 use Rattle.mms_services.specs.PduOctets.{invoke_octets, request_octets, pdu_octets, pdu_len}
 use Rattle.mms_services.specs.PduOctets.{IsWritableRequest}
 use Rattle.tase_views.specs.declared.call.CallKind.{CallKind}
-use Rattle.tase_map.specs.Asked.{request_in}
+use Rattle.tase_conn.specs.Map.Asked.{request_in}
 use Rattle.centre_client.specs.declared.steps.TheConstants.{LAST_INVOKE, REQUEST_LIMIT}
 use Rattle.centre_client.specs.Sayings.{IsSayable, IsShort}
 

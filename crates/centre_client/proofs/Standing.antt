@@ -4,7 +4,7 @@ use Rattle.std.proofs.Common.{refl, sym, ◌∙◌}
 use Rattle.std.specs.Prelude.{if◌then◌else◌, nat_le, ◌-◌}
 use Rattle.std.specs.Ordering.{int_eq}
 use Rattle.mms_services.specs.declared.pdu.MmsPdu.{MmsPdu}
-use Rattle.stack_messages.specs.declared.fault.Layer.TheVariants as layers
+use Rattle.stack_assoc.specs.declared.messages.fault.Layer.TheVariants as layers
 use Rattle.stack_assoc.specs.declared.input.StackIn.{StackIn}
 use Rattle.stack_assoc.specs.declared.input.StackIn.TheVariants as inputs
 use Rattle.stack_assoc.specs.declared.end_state.EndState.{EndState}
@@ -14,7 +14,7 @@ use Rattle.stack_assoc.specs.Courses.{EndStandsBehind, is_offered}
 use Rattle.bilateral.specs.Rows.{CentreRows, device_of}
 use Rattle.tase_views.specs.declared.reply.ReplyKind.{ReplyKind}
 use Rattle.tase_views.specs.declared.reply.ReportKind.{ReportKind}
-use Rattle.tase_map.specs.Replied.{reply_in, report_in, answered_number}
+use Rattle.tase_conn.specs.Map.Replied.{reply_in, report_in, answered_number}
 use Rattle.centre_client.specs.declared.script.Step.{Step}
 use Rattle.centre_client.specs.declared.script.StepKind.{StepKind}
 use Rattle.centre_client.specs.declared.script.StepKind.TheVariants as kinds

@@ -7,7 +7,7 @@ use Rattle.ber_values.proofs.Capped.{length-written, part_size-short}
 use Rattle.mms_services.specs.declared.pdu.MmsPdu.TheVariants as pdus
 use Rattle.mms_services.specs.PduOctets.{pdu_octets, pdu_len}
 use Rattle.plain_text.specs.Extends.{Extends}
-use Rattle.stack_messages.specs.declared.fault.StackFault.{StackFault}
+use Rattle.stack_assoc.specs.declared.messages.fault.StackFault.{StackFault}
 use Rattle.stack_assoc.specs.declared.input.StackIn.{StackIn}
 use Rattle.stack_assoc.specs.Arrivals.{Arrival, Role}
 use Rattle.stack_assoc.specs.Courses.{Course, IsNextAnswer, EndStandsBehind}

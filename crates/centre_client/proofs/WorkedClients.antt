@@ -7,8 +7,8 @@ use Rattle.mms_data.specs.declared.outcome.Outcome.TheVariants.{Good}
 use Rattle.mms_services.specs.declared.pdu.MmsPdu.TheVariants as pdus
 use Rattle.mms_services.specs.declared.response.Response.{Response}
 use Rattle.mms_services.specs.declared.response.Response.TheVariants as responses
-use Rattle.stack_messages.specs.declared.heard.Accepting.{Accepting}
-use Rattle.stack_messages.specs.declared.heard.Heard.TheVariants as heards
+use Rattle.stack_assoc.specs.declared.messages.heard.Accepting.{Accepting}
+use Rattle.stack_assoc.specs.declared.messages.heard.Heard.TheVariants as heards
 use Rattle.stack_assoc.specs.Arrivals.{Arrival, confirmed, gone, heard}
 use Rattle.sbo_device.specs.declared.kind.CommandKind.TheVariants.{Command}
 use Rattle.bilateral.specs.Rows.{CentreRows, no_table}

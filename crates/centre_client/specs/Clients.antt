@@ -6,15 +6,15 @@ use Rattle.tpkt_cotp.specs.Streams.{Message, asks, confirms, tsdu}
 use Rattle.tpkt_cotp.specs.Streams as transport
 use Rattle.tpkt_cotp.specs.Written.{connection_request_octets}
 use Rattle.tpkt_cotp.specs.declared.turn.Role.TheVariants.{Calling}
-use Rattle.stack_messages.specs.declared.fault.StackFault.{StackFault}
-use Rattle.stack_messages.specs.Messages.{message}
+use Rattle.stack_assoc.specs.declared.messages.fault.StackFault.{StackFault}
+use Rattle.stack_assoc.specs.Messages.Messages.{message}
 use Rattle.stack_assoc.specs.Arrivals.{Arrival, asked, confirmed, gone, Role, calling}
 use Rattle.stack_assoc.specs.Expectations.{setup_after, expecting_after}
 use Rattle.stack_assoc.specs.Handing.{answer_to, stack_in}
 use Rattle.stack_assoc.specs.Saying.{role_concluding}
 use Rattle.stack_assoc.specs.declared.input.StackIn.{StackIn}
 use Rattle.bilateral.specs.Rows.{CentreRows, table_of}
-use Rattle.tase_map.specs.Readings.{arrival_heard, broken_at_end}
+use Rattle.tase_conn.specs.Map.Readings.{arrival_heard, broken_at_end}
 use Rattle.centre_client.specs.declared.script.Script.{Script}
 use Rattle.centre_client.specs.declared.play.Awaiting.{Awaiting}
 use Rattle.centre_client.specs.declared.play.Awaiting.TheVariants as awaits

@@ -6,7 +6,7 @@ use Rattle.stack_assoc.specs.declared.input.StackIn.{StackIn}
 use Rattle.stack_assoc.specs.declared.input.StackIn.TheVariants.{Pdu}
 use Rattle.bilateral.specs.Rows.{CentreRows, device_of}
 use Rattle.tase_views.specs.declared.reply.ReplyKind.{ReplyKind}
-use Rattle.tase_map.specs.Replied.{reply_in, answered_number}
+use Rattle.tase_conn.specs.Map.Replied.{reply_in, answered_number}
 use Rattle.centre_client.specs.declared.script.Step.{Step}
 use Rattle.centre_client.specs.declared.script.StepKind.{StepKind}
 use Rattle.centre_client.specs.declared.script.StepKind.TheVariants.{Operate}

@@ -3,18 +3,18 @@
 use Rattle.std.specs.Prelude.{ℕ, if◌then◌else◌, List, [], ◌∷◌, ◌++◌, Option, Some, None, codes}
 use Rattle.mms_services.specs.declared.pdu.MmsPdu.{MmsPdu}
 use Rattle.mms_services.specs.Lawful.{IsLawfulPdu}
-use Rattle.stack_messages.specs.declared.fault.Layer.{Layer}
-use Rattle.stack_messages.specs.declared.fault.Layer.TheVariants as layers
-use Rattle.stack_messages.specs.Layers.{out_of_order}
+use Rattle.stack_assoc.specs.declared.messages.fault.Layer.{Layer}
+use Rattle.stack_assoc.specs.declared.messages.fault.Layer.TheVariants as layers
+use Rattle.stack_assoc.specs.Messages.Layers.{out_of_order}
 use Rattle.stack_assoc.specs.declared.input.StackIn.{StackIn}
 use Rattle.stack_assoc.specs.declared.input.StackIn.TheVariants as inputs
 use Rattle.stack_assoc.specs.Arrivals.{is_concluded_pdu}
 use Rattle.bilateral.specs.Rows.{CentreRows}
 use Rattle.tase_views.specs.declared.reply.ReplyKind.{ReplyKind}
 use Rattle.tase_views.specs.declared.reply.ReportKind.{ReportKind}
-use Rattle.tase_map.specs.Replied.{reply_in, report_in, answered_number}
-use Rattle.event_text.specs.ReplyTexts.{reply_text}
-use Rattle.report_text.specs.ReportTexts.{report_text}
+use Rattle.tase_conn.specs.Map.Replied.{reply_in, report_in, answered_number}
+use Rattle.texts.specs.Events.ReplyTexts.{reply_text}
+use Rattle.texts.specs.Reports.ReportTexts.{report_text}
 use Rattle.centre_client.specs.declared.play.Awaiting.{Awaiting}
 use Rattle.centre_client.specs.declared.play.Awaiting.TheVariants as awaits
 use Rattle.centre_client.specs.declared.play.ClientMove.{ClientMove}

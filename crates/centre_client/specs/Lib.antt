@@ -7,3 +7,4 @@ pub mod Hearings
 pub mod Clients
 pub mod Callers
 pub mod Guards
+pub mod Service

@@ -4,12 +4,12 @@ use Rattle.tpkt_cotp.specs.Written.{wire}
 use Rattle.mms_services.specs.declared.pdu.MmsPdu.{MmsPdu}
 use Rattle.mms_services.specs.declared.pdu.MmsPdu.TheVariants as pdus
 use Rattle.mms_services.specs.PduOctets.{pdu_len, IsWritablePdu}
-use Rattle.stack_wire.specs.declared.setup.AssociationSetup.{AssociationSetup}
-use Rattle.stack_wire.specs.Tsdus.{finish_tsdu}
+use Rattle.stack_assoc.specs.declared.wire.setup.AssociationSetup.{AssociationSetup}
+use Rattle.stack_assoc.specs.Wire.Tsdus.{finish_tsdu}
 use Rattle.bilateral.specs.Rows.{CentreRows}
 use Rattle.tase_views.specs.declared.call.CallKind.{CallKind}
-use Rattle.tase_map.specs.Asked.{request_in}
-use Rattle.tase_map.specs.Out.{said}
+use Rattle.tase_conn.specs.Map.Asked.{request_in}
+use Rattle.tase_conn.specs.Map.Out.{said}
 use Rattle.centre_client.specs.declared.play.Awaiting.{Awaiting}
 use Rattle.centre_client.specs.declared.play.Awaiting.TheVariants as awaits
 use Rattle.centre_client.specs.declared.steps.TheConstants.{LAST_INVOKE, REQUEST_LIMIT}

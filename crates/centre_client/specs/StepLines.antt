@@ -5,7 +5,7 @@ use Rattle.std.specs.Prelude.{Some, None, option_and_then, is_some}
 use Rattle.std.specs.Prelude.{bytes_eq, codes, Result, Ok, Err}
 use Rattle.std.specs.List.{list_any}
 use Rattle.plain_text.specs.Numbers.{if_passes, number_up_to}
-use Rattle.table_words.specs.Devices.{short_in}
+use Rattle.bilateral.specs.Words.Devices.{short_in}
 use Rattle.plain_text.specs.Words.{words_in}
 use Rattle.bilateral.specs.Rows.{CentreRows, table_of, device_of, place_of_peer, place_of_device}
 use Rattle.bilateral.specs.Rows.{place_of_control}
@@ -16,8 +16,8 @@ use Rattle.mms_services.specs.declared.pdu.MmsPdu.TheVariants as pdus
 use Rattle.mms_services.specs.PduOctets.{pdu_len}
 use Rattle.tase_views.specs.declared.call.CallKind.{CallKind}
 use Rattle.tase_views.specs.declared.call.CallKind.TheVariants as calls
-use Rattle.journal_text.specs.CallIn.{call_in}
-use Rattle.tase_map.specs.Asked.{request_in, is_odd}
+use Rattle.texts.specs.Journal.CallIn.{call_in}
+use Rattle.tase_conn.specs.Map.Asked.{request_in, is_odd}
 use Rattle.centre_client.specs.declared.fault.ScriptWhy.{ScriptWhy}
 use Rattle.centre_client.specs.declared.fault.ScriptWhy.TheVariants.{Start, Word, Unknown, Long}
 use Rattle.centre_client.specs.declared.fault.ScriptWhy.TheVariants.{Selectable}

@@ -2,9 +2,9 @@
 ghost use Rattle.std.specs.Prelude.{◌≡◌, ◌<◌, ◌≤◌, ◌++◌, IfOk, true, false, length};
 ghost use Rattle.ber_values.specs.Visible.{IsVisible};
 ghost use Rattle.mms_data.specs.ObjectName.{IsIdentifier};
-ghost use Rattle.table_words.specs.Words.{is_name};
+ghost use Rattle.bilateral.specs.Words.Words.{is_name};
 ghost use Rattle.bilateral.specs.Rows.{table_of, device_of};
-ghost use Rattle.tase_map.specs.Asked.{is_odd};
+ghost use Rattle.tase_conn.specs.Map.Asked.{is_odd};
 ghost use Rattle.centre_client.specs.Plays as own;
 ghost use Rattle.centre_client.specs.Sayings.{request_pdu, IsSayable, IsShort};
 
@@ -14,7 +14,7 @@ use bilateral::{Centre, DeviceRow};
 use mms_data::{DataKind, MmsData, Name, Names, Scope};
 use mms_services::MmsPdu;
 use std::alloc::{AllocError, Global};
-use tase_map::request_of;
+use tase_conn::map::request_of;
 use tase_views::{Call, CallKind, Values};
 
 /// The request of a call, with this number.

@@ -1,5 +1,5 @@
 //! How a client ends.
-use stack_messages::StackFault;
+use stack_assoc::messages::StackFault;
 
 /// How a client ends over what its peer gave.
 #[derive(Clone, Copy, Debug, PartialEq, Eq)]

@@ -1,9 +1,9 @@
 //! What the calling end hears, as what it comes to in a script that is played.
 ghost use Rattle.std.specs.Prelude.{◌≡◌, ◌++◌, Some, IfOk, OnOk, OnErr};
 ghost use Rattle.mms_services.specs.Lawful.{IsLawfulPdu};
-ghost use Rattle.stack_messages.specs.declared.fault.Layer.TheVariants as layers;
+ghost use Rattle.stack_assoc.specs.declared.messages.fault.Layer.TheVariants as layers;
 ghost use Rattle.stack_assoc.specs.Arrivals.{is_concluded_pdu};
-ghost use Rattle.tase_map.specs.Replied as maps;
+ghost use Rattle.tase_conn.specs.Map.Replied as maps;
 ghost use Rattle.centre_client.specs.Plays as own;
 ghost use Rattle.centre_client.specs.Hearings as heard;
 
@@ -14,9 +14,9 @@ use ber_values::Why;
 use bilateral::Centre;
 use mms_services::MmsPdu;
 use stack_assoc::StackIn;
-use stack_messages::{Layer, StackFault};
+use stack_assoc::messages::{Layer, StackFault};
 use std::alloc::{AllocError, Global};
-use tase_map::{reply_of, report_of};
+use tase_conn::map::{reply_of, report_of};
 use tase_views::{Reply, Report};
 
 impl Play {

@@ -2,7 +2,7 @@
 ghost use Rattle.std.specs.Prelude.{◌≡◌, ℕ, ◌+◌, ◌<◌, Option, Some, None, List};
 ghost use Rattle.tpkt_cotp.specs.declared.turn.Role.TheVariants.{Calling};
 ghost use Rattle.tpkt_cotp.specs.Streams.{Message};
-ghost use Rattle.stack_messages.specs.declared.fault.StackFault.{StackFault};
+ghost use Rattle.stack_assoc.specs.declared.messages.fault.StackFault.{StackFault};
 ghost use Rattle.stack_assoc.specs.Arrivals.{Arrival};
 ghost use Rattle.stack_assoc.specs.Fronts.{StartsWith};
 ghost use Rattle.stack_assoc.specs.Tellings.{Tell, Tells, StopsTelling};

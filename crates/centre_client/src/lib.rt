@@ -11,6 +11,7 @@ mod laws;
 mod numbered;
 mod play;
 mod script;
+pub mod service;
 mod showing;
 mod steps;
 

@@ -4,10 +4,10 @@ ghost use Rattle.plain_text.specs.Extends.{Extends};
 ghost use Rattle.centre_client.specs.Hearings.{shown_reply_line, shown_report_line};
 
 use ber_values::or_undo;
-use event_text::spell_reply;
-use report_text::spell_report;
 use std::alloc::AllocError;
 use tase_views::{Reply, Report};
+use texts::events::spell_reply;
+use texts::reports::spell_report;
 
 /// Appends the line of a reply. After want of memory `shown` is as before.
 pub(crate) fn show_reply(shown: &mut Vec<u8>, reply: &Reply) -> Result<(), AllocError>

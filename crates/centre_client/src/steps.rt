@@ -2,22 +2,22 @@
 ghost use Rattle.std.specs.Prelude.{◌≡◌, ◌<◌, ◌≤◌, false, Ok, IfOk, OnOk, IfSome, length};
 ghost use Rattle.std.specs.List.{list_any};
 ghost use Rattle.plain_text.specs.Words.{words};
-ghost use Rattle.journal_text.specs.CallIn.{call_in};
-ghost use Rattle.tase_map.specs.Asked.{is_odd};
-ghost use Rattle.table_words.specs.Devices.{short_in};
+ghost use Rattle.texts.specs.Journal.CallIn.{call_in};
+ghost use Rattle.tase_conn.specs.Map.Asked.{is_odd};
+ghost use Rattle.bilateral.specs.Words.Devices.{short_in};
 ghost use Rattle.centre_client.specs.declared.script.StepKind.TheVariants as kinds;
 ghost use Rattle.centre_client.specs.StepLines as own;
 
 use crate::fault::ScriptWhy;
 use crate::script::StepKind;
 use bilateral::Centre;
-use event_text::read_call_words;
 use mms_data::{Name, Names, Scope};
 use mms_services::{MmsPdu, pdu_len};
 use plain_text::{is_spaced, next_word, read_integer, read_number, two_words};
 use std::alloc::{AllocError, Global};
-use tase_map::request_of;
+use tase_conn::map::request_of;
 use tase_views::{Call, CallKind};
+use texts::events::read_call_words;
 
 /// The highest number of a request, which has the most octets.
 pub const LAST_INVOKE: u32 = 2147483647;

@@ -9,20 +9,20 @@ use Rattle.tase_views.specs.Setup.{Setup}
 use Rattle.tase_views.specs.History.{Past}
 use Rattle.tase_views.specs.Outcomes.{refusal_of, answer_of}
 use Rattle.tase_views.specs.declared.event.EventKind.{EventKind}
-use Rattle.tase_map.specs.Inputs.{Item}
-use Rattle.tase_map.specs.Turns.{Turn, turns_of}
-use Rattle.tase_map.specs.Asks.{is_last}
+use Rattle.tase_conn.specs.Map.Inputs.{Item}
+use Rattle.tase_conn.specs.Map.Turns.{Turn, turns_of}
+use Rattle.tase_conn.specs.Map.Asks.{is_last}
 use Rattle.tase_conn.specs.declared.stage.PendingEvent.TheVariants as askeds
 use Rattle.tase_conn.specs.declared.stage.Progress.{Progress}
 use Rattle.tase_conn.specs.declared.stage.Progress.TheVariants as progresses
 use Rattle.tase_conn.specs.Talking.{Talking, pending_of, conn_end_in, IsResting}
 use Rattle.tase_conn.specs.Places.{GoesBy, Runs, Reach, IsReadToEnd, ReadsNoMore}
 use Rattle.tase_conn.specs.declared.stage.ConnEnd.{ConnEnd}
-use Rattle.conn_laws.specs.AnswerEnd.{end_answered}
-use Rattle.conn_laws.specs.Serving.{Serves, IsWaiting, HasServed}
-use Rattle.tase_map.specs.Sent.{with_event}
-use Rattle.conn_laws.proofs.Served.{has_served, all_done}
-use Rattle.tase_map.specs.Linked.{link_octets}
+use Rattle.conn_service.specs.Courses.AnswerEnd.{end_answered}
+use Rattle.conn_service.specs.Courses.Serving.{Serves, IsWaiting, HasServed}
+use Rattle.tase_conn.specs.Map.Sent.{with_event}
+use Rattle.conn_service.proofs.OfCourses.Served.{has_served, all_done}
+use Rattle.tase_conn.specs.Map.Linked.{link_octets}
 use Rattle.tase_conn.specs.PeerEnd.{peer_end}
 use Rattle.tase_conn.proofs.LastTurns.{at_end, brought_end, none_brought}
 use Rattle.conn_service.specs.Sends.{Sends, IsSaidByEnd}

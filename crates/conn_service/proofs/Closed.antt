@@ -5,7 +5,7 @@ use Rattle.std.proofs.Common.{Option, Some, None, is_some, refl, sym, ap, ◌∙
 use Rattle.std.specs.Prelude.{if◌then◌else◌, ◌⊎◌, unwrap_or}
 use Rattle.std.proofs.lemmas.Bool.{false≢true}
 use Rattle.std.proofs.lemmas.List.{append-nil}
-use Rattle.stack_wire.specs.declared.setup.AssociationSetup.{AssociationSetup}
+use Rattle.stack_assoc.specs.declared.wire.setup.AssociationSetup.{AssociationSetup}
 use Rattle.stack_assoc.specs.declared.end_state.EndState.{EndState}
 use Rattle.stack_assoc.specs.Courses.{Course, is_accepted}
 use Rattle.stack_assoc.specs.Expectations.{setup_after}
@@ -15,11 +15,11 @@ use Rattle.tase_views.specs.Setup.{Setup}
 use Rattle.tase_views.specs.History.{Past, association_in}
 use Rattle.tase_views.specs.declared.event.EventKind.{EventKind}
 use Rattle.tase_views.specs.declared.event.EventKind.TheVariants as events
-use Rattle.tase_map.specs.Inputs.{Item, text_given}
-use Rattle.tase_map.specs.Readings.{reading_of}
-use Rattle.tase_map.specs.Turns.{Turn}
-use Rattle.tase_map.specs.Out.{abort_wire}
-use Rattle.tase_map.specs.Sent.{events_by, with_event}
+use Rattle.tase_conn.specs.Map.Inputs.{Item, text_given}
+use Rattle.tase_conn.specs.Map.Readings.{reading_of}
+use Rattle.tase_conn.specs.Map.Turns.{Turn}
+use Rattle.tase_conn.specs.Map.Out.{abort_wire}
+use Rattle.tase_conn.specs.Map.Sent.{events_by, with_event}
 use Rattle.tase_conn.specs.declared.stage.ConnEnd.{ConnEnd}
 use Rattle.tase_conn.specs.declared.stage.ConnEnd.TheVariants as conn_ends
 use Rattle.tase_conn.specs.declared.stage.Progress.TheVariants as progresses
@@ -27,13 +27,13 @@ use Rattle.tase_conn.specs.declared.stage.Stage.{Stage}
 use Rattle.tase_conn.specs.declared.stage.Stage.TheVariants as stages
 use Rattle.tase_conn.specs.Talking.{Talking, is_open_stage, is_leaving}
 use Rattle.tase_conn.specs.Answering.{aborts}
-use Rattle.conn_laws.specs.Cutting.{HasLeft, LeftBy, HasSaidSome, HasShut}
-use Rattle.conn_laws.specs.Cutting.{parting}
-use Rattle.conn_laws.proofs.Leftover.{was_left}
-use Rattle.conn_laws.proofs.Seats.{event_here, none_open, seat_opened}
-use Rattle.tase_map.specs.Linked.{link_octets, opened_in}
-use Rattle.tase_map.specs.Closed.{is_closed}
-use Rattle.tase_map.proofs.Closing.{closed_spent}
+use Rattle.conn_service.specs.Courses.Cutting.{HasLeft, LeftBy, HasSaidSome, HasShut}
+use Rattle.conn_service.specs.Courses.Cutting.{parting}
+use Rattle.conn_service.proofs.OfCourses.Leftover.{was_left}
+use Rattle.conn_service.proofs.OfCourses.Seats.{event_here, none_open, seat_opened}
+use Rattle.tase_conn.specs.Map.Linked.{link_octets, opened_in}
+use Rattle.tase_conn.specs.Map.Closed.{is_closed}
+use Rattle.tase_conn.proofs.OfMap.Closing.{closed_spent}
 use Rattle.conn_service.specs.Sends.{Sends, IsSaidInPart, IsFrontOf, IsSaidByEnd, close_of}
 use Rattle.conn_service.specs.Attending.{IsCut}
 

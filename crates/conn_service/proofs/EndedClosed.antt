@@ -7,11 +7,11 @@ use Rattle.std.proofs.lemmas.Option.{none-some}
 use Rattle.bilateral.specs.Rows.{CentreRows}
 use Rattle.tase_views.specs.Setup.{Setup}
 use Rattle.tase_views.specs.History.{Past, association_in}
-use Rattle.tase_map.specs.Inputs.{Item, IsLinkInput, text_given}
-use Rattle.tase_map.specs.Readings.{reading_of}
-use Rattle.tase_map.specs.Turns.{Turn, turns_of}
-use Rattle.tase_map.specs.Asks.{is_last}
-use Rattle.tase_map.proofs.Unrefused.{shut_seat}
+use Rattle.tase_conn.specs.Map.Inputs.{Item, IsLinkInput, text_given}
+use Rattle.tase_conn.specs.Map.Readings.{reading_of}
+use Rattle.tase_conn.specs.Map.Turns.{Turn, turns_of}
+use Rattle.tase_conn.specs.Map.Asks.{is_last}
+use Rattle.tase_conn.proofs.OfMap.Unrefused.{shut_seat}
 use Rattle.tase_conn.specs.declared.stage.ConnEnd.{ConnEnd}
 use Rattle.tase_conn.specs.PeerEnd.{peer_end, last_turn, end_at}
 use Rattle.conn_service.specs.Sends.{Sends, IsAllTaken, IsCutOff}

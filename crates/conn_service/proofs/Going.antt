@@ -23,8 +23,8 @@ use Rattle.tase_views.specs.declared.fault.StepFault.{StepFault}
 use Rattle.tase_views.specs.declared.fault.StepFault.TheVariants as faults
 use Rattle.node_core.specs.NodeState.{NodeState, with_entry}
 use Rattle.node_core.proofs.Outcomes.{reverse_push}
-use Rattle.tase_map.specs.Inputs.{Item}
-use Rattle.tase_map.specs.Turns.{Turn}
+use Rattle.tase_conn.specs.Map.Inputs.{Item}
+use Rattle.tase_conn.specs.Map.Turns.{Turn}
 use Rattle.tase_conn.specs.declared.stage.PendingEvent.{PendingEvent}
 use Rattle.tase_conn.specs.declared.stage.PendingEvent.TheVariants as askeds
 use Rattle.tase_conn.specs.declared.stage.ConnEnd.{ConnEnd}
@@ -42,13 +42,13 @@ use Rattle.tase_conn.specs.Wanting.{progress_closing}
 use Rattle.tase_conn.specs.Leaving.{IsLeft, Parts}
 use Rattle.tase_conn.specs.Answering.{told_said, progress_told, IsAnswerFor, TellsAnswer}
 use Rattle.tase_conn.specs.Answering.{parting_octets, end_of_fault}
-use Rattle.conn_laws.specs.Serving.{Serves, SaysBy, IsWaiting}
-use Rattle.tase_map.specs.Sent.{with_event}
-use Rattle.conn_laws.specs.Cutting.{HasLeft, IsClosingFor, LeftBy, left_said}
-use Rattle.conn_laws.proofs.Left.{refused_leaves, closing_leaves, closed_leaves, stands_by}
-use Rattle.conn_laws.proofs.Seats.{none_open}
-use Rattle.conn_laws.proofs.Served.{never_refused}
-use Rattle.conn_laws.proofs.Wanted.{waiting_of}
+use Rattle.conn_service.specs.Courses.Serving.{Serves, SaysBy, IsWaiting}
+use Rattle.tase_conn.specs.Map.Sent.{with_event}
+use Rattle.conn_service.specs.Courses.Cutting.{HasLeft, IsClosingFor, LeftBy, left_said}
+use Rattle.conn_service.proofs.OfCourses.Left.{refused_leaves, closing_leaves, closed_leaves, stands_by}
+use Rattle.conn_service.proofs.OfCourses.Seats.{none_open}
+use Rattle.conn_service.proofs.OfCourses.Served.{never_refused}
+use Rattle.conn_service.proofs.OfCourses.Wanted.{waiting_of}
 use Rattle.conn_service.specs.Attending.{IsServed, IsAsking, IsParting}
 use Rattle.conn_service.specs.Attending.{ClosesLeft, closing_said, AsksClose, IsAskingClose}
 use Rattle.conn_service.proofs.Closed.{seat_left}

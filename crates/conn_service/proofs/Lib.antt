@@ -10,3 +10,6 @@ pub mod Memory
 pub mod TooLong
 pub mod Attended
 pub mod EndedClosed
+pub mod OfCourses
+pub use Rattle.tase_conn.proofs as TaseConn
+pub use Rattle.node_core.proofs as NodeCore

@@ -12,11 +12,11 @@ use Rattle.tase_views.specs.Outcomes.{IsRightOutcome, answer_of}
 use Rattle.tase_views.specs.declared.event.EventKind.{EventKind}
 use Rattle.tase_views.specs.declared.reply.Answer.{Answer}
 use Rattle.node_core.specs.NodeState.{NodeState, with_entry}
-use Rattle.tase_map.specs.Inputs.{Item}
-use Rattle.tase_map.specs.Turns.{Turn}
-use Rattle.tase_map.specs.Asks.{asks_of, asks_behind, up_to_last}
-use Rattle.tase_map.specs.Sent.{events_by, with_event}
-use Rattle.tase_map.proofs.AskedOn.{asks_join}
+use Rattle.tase_conn.specs.Map.Inputs.{Item}
+use Rattle.tase_conn.specs.Map.Turns.{Turn}
+use Rattle.tase_conn.specs.Map.Asks.{asks_of, asks_behind, up_to_last}
+use Rattle.tase_conn.specs.Map.Sent.{events_by, with_event}
+use Rattle.tase_conn.proofs.OfMap.AskedOn.{asks_join}
 use Rattle.tase_conn.specs.declared.stage.PendingEvent.TheVariants as askeds
 use Rattle.tase_conn.specs.declared.stage.ConnEnd.{ConnEnd}
 use Rattle.tase_conn.specs.declared.stage.ConnEnd.TheVariants as conn_ends
@@ -27,15 +27,15 @@ use Rattle.tase_conn.specs.Places.{IsPlaced, GoesBy, KeepsPlace, Runs, Reach}
 use Rattle.tase_conn.specs.Wanting.{PassesSo, IsIdle}
 use Rattle.tase_conn.specs.Leaving.{IsLeft}
 use Rattle.tase_conn.specs.Answering.{unnoted}
-use Rattle.conn_laws.specs.Serving.{Serves, IsWaiting}
-use Rattle.conn_laws.specs.Cutting.{HasLeft, left_said}
-use Rattle.conn_laws.proofs.Ended.{passes_on}
-use Rattle.conn_laws.proofs.Left.{given_up, stands_by}
+use Rattle.conn_service.specs.Courses.Serving.{Serves, IsWaiting}
+use Rattle.conn_service.specs.Courses.Cutting.{HasLeft, left_said}
+use Rattle.conn_service.proofs.OfCourses.Ended.{passes_on}
+use Rattle.conn_service.proofs.OfCourses.Left.{given_up, stands_by}
 use Rattle.tase_conn.proofs.LastTurns.{goes_front}
-use Rattle.conn_laws.proofs.Served.{begins_turns, next_asked}
-use Rattle.conn_laws.proofs.Unnoted.{unnoted_leaves}
+use Rattle.conn_service.proofs.OfCourses.Served.{begins_turns, next_asked}
+use Rattle.conn_service.proofs.OfCourses.Unnoted.{unnoted_leaves}
 use Rattle.conn_service.specs.Attending.{IsServed, IsAsking, IsParting, CutsOff, ClosesLeft}
-use Rattle.conn_laws.specs.AnswerEnd.{end_answered}
+use Rattle.conn_service.specs.Courses.AnswerEnd.{end_answered}
 use Rattle.conn_service.specs.Attending.{closing_said}
 use Rattle.conn_service.proofs.Closed.{none_left, said_in_part}
 use Rattle.conn_service.proofs.Going.{grown, placed_of}

@@ -18,10 +18,10 @@ use Rattle.tase_views.specs.declared.event.EventKind.TheVariants as events
 use Rattle.tase_views.specs.declared.fault.StepFault.{StepFault}
 use Rattle.tase_views.specs.declared.fault.StepFault.TheVariants as faults
 use Rattle.node_core.specs.NodeState.{NodeState}
-use Rattle.tase_map.specs.Inputs.{Item}
-use Rattle.tase_map.specs.Turns.{Turn, asks}
-use Rattle.tase_map.specs.Turns.{pauses, turns_of}
-use Rattle.tase_map.specs.Asks.{without_pauses}
+use Rattle.tase_conn.specs.Map.Inputs.{Item}
+use Rattle.tase_conn.specs.Map.Turns.{Turn, asks}
+use Rattle.tase_conn.specs.Map.Turns.{pauses, turns_of}
+use Rattle.tase_conn.specs.Map.Asks.{without_pauses}
 use Rattle.tase_conn.specs.declared.stage.PendingEvent.{PendingEvent}
 use Rattle.tase_conn.specs.declared.stage.PendingEvent.TheVariants as askeds
 use Rattle.tase_conn.specs.declared.stage.ConnEnd.{ConnEnd}
@@ -36,22 +36,22 @@ use Rattle.tase_conn.proofs.Known.{begun_connected, served_position, opening_pos
 use Rattle.tase_conn.specs.Leaving.{IsLeft}
 use Rattle.tase_conn.specs.Answering.{parting_octets, IsAnswerFor, aborts as aborts_for}
 use Rattle.tase_conn.specs.Answering.{end_of_fault}
-use Rattle.conn_laws.specs.Serving.{Serves, SaysBy, SaysOpen, IsWaiting}
-use Rattle.tase_map.specs.Sent.{with_event}
-use Rattle.conn_laws.specs.Serving.{HoldsOfAllInput}
-use Rattle.conn_laws.specs.Cutting.{IsUnexplained, HasLeft, HasSetupOf, left_said}
-use Rattle.conn_laws.proofs.Answered.{asked_turn, opens_early, request_served, take_served}
-use Rattle.conn_laws.proofs.Answered.{IsServedAt, take_whole}
-use Rattle.conn_laws.proofs.Left.{setup_known, stands_by, unparted, open_left, closed_says}
-use Rattle.conn_laws.proofs.Leftover.{all_said}
-use Rattle.conn_laws.proofs.Served.{begins_turns, next_asked}
-use Rattle.conn_laws.proofs.Unopened.{unopened_said}
-use Rattle.conn_laws.proofs.Wanted.{waiting_of}
+use Rattle.conn_service.specs.Courses.Serving.{Serves, SaysBy, SaysOpen, IsWaiting}
+use Rattle.tase_conn.specs.Map.Sent.{with_event}
+use Rattle.conn_service.specs.Courses.Serving.{HoldsOfAllInput}
+use Rattle.conn_service.specs.Courses.Cutting.{IsUnexplained, HasLeft, HasSetupOf, left_said}
+use Rattle.conn_service.proofs.OfCourses.Answered.{asked_turn, opens_early, request_served, take_served}
+use Rattle.conn_service.proofs.OfCourses.Answered.{IsServedAt, take_whole}
+use Rattle.conn_service.proofs.OfCourses.Left.{setup_known, stands_by, unparted, open_left, closed_says}
+use Rattle.conn_service.proofs.OfCourses.Leftover.{all_said}
+use Rattle.conn_service.proofs.OfCourses.Served.{begins_turns, next_asked}
+use Rattle.conn_service.proofs.OfCourses.Unopened.{unopened_said}
+use Rattle.conn_service.proofs.OfCourses.Wanted.{waiting_of}
 use Rattle.conn_service.specs.Attending.{IsAsking, IsParting, ClosesLeft}
 use Rattle.conn_service.specs.Attending.{closing_said, IsNodesEnd, IsBrought, CutsOff}
 use Rattle.conn_service.specs.Served.{with_closed}
 use Rattle.conn_service.specs.Sends.{IsCutFor, IsSaidByEnd}
-use Rattle.tase_map.specs.Linked.{link_octets}
+use Rattle.tase_conn.specs.Map.Linked.{link_octets}
 use Rattle.conn_service.proofs.Closed.{none_left, said_whole}
 use Rattle.conn_service.proofs.Going.{seat_open, refused_left, left_goes}
 use Rattle.conn_service.proofs.Going.{serving_refused}

@@ -17,10 +17,10 @@ use Rattle.tase_conn.specs.declared.stage.PendingEvent.{PendingEvent}
 use Rattle.tase_conn.specs.declared.stage.PendingEvent.TheVariants as askeds
 use Rattle.tase_conn.specs.declared.stage.Progress.{Progress}
 use Rattle.tase_conn.specs.declared.stage.Progress.TheVariants as progresses
-use Rattle.conn_laws.specs.Serving.{IsWaiting}
-use Rattle.tase_map.specs.Sent.{with_event}
-use Rattle.conn_laws.proofs.Seats.{at_seat}
-use Rattle.conn_laws.proofs.Wanted.{waiting_of}
+use Rattle.conn_service.specs.Courses.Serving.{IsWaiting}
+use Rattle.tase_conn.specs.Map.Sent.{with_event}
+use Rattle.conn_service.proofs.OfCourses.Seats.{at_seat}
+use Rattle.conn_service.proofs.OfCourses.Wanted.{waiting_of}
 use Rattle.conn_service.specs.Attending.{remaining, seat_count}
 
 -- ---- events that take room

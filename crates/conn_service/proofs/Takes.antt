@@ -7,11 +7,11 @@ use Rattle.tase_views.specs.History.{Past}
 use Rattle.tase_views.specs.Outcomes.{refusal_of, answer_of}
 use Rattle.tase_views.specs.declared.event.EventKind.{EventKind}
 use Rattle.tase_views.specs.declared.fault.StepFault.{StepFault}
-use Rattle.tase_map.specs.Inputs.{Item}
-use Rattle.tase_map.specs.Sent.{events_by, with_event}
+use Rattle.tase_conn.specs.Map.Inputs.{Item}
+use Rattle.tase_conn.specs.Map.Sent.{events_by, with_event}
 use Rattle.tase_conn.specs.declared.stage.ConnEnd.{ConnEnd}
-use Rattle.conn_laws.specs.AnswerEnd.{end_answered}
-use Rattle.conn_laws.proofs.Seats.{event_here}
+use Rattle.conn_service.specs.Courses.AnswerEnd.{end_answered}
+use Rattle.conn_service.proofs.OfCourses.Seats.{event_here}
 use Rattle.conn_service.specs.Served.{Served, served, served_by}
 use Rattle.conn_service.specs.Attending.{TakesTo, TakesEvents}
 

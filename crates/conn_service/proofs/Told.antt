@@ -17,7 +17,7 @@ use Rattle.tase_views.specs.declared.event.EventKind.TheVariants as events
 use Rattle.tase_views.specs.declared.reply.Answer.{Answer}
 use Rattle.tase_views.specs.declared.fault.StepFault.{StepFault}
 use Rattle.tase_views.specs.declared.fault.StepFault.TheVariants as faults
-use Rattle.tase_map.specs.Asks.{AreServed, AreInTurn}
+use Rattle.tase_conn.specs.Map.Asks.{AreServed, AreInTurn}
 use Rattle.tase_conn.specs.declared.stage.PendingEvent.{PendingEvent}
 use Rattle.tase_conn.specs.declared.stage.PendingEvent.TheVariants as askeds
 use Rattle.tase_conn.specs.declared.stage.Cause.{Cause}
@@ -27,8 +27,8 @@ use Rattle.tase_conn.specs.declared.stage.Progress.TheVariants as progresses
 use Rattle.tase_conn.specs.Talking.{IsFree}
 use Rattle.tase_conn.specs.Wanting.{WaitsFor}
 use Rattle.tase_conn.specs.Answering.{IsAnswerTo, IsAnswerFor, IsCutFault}
-use Rattle.conn_laws.specs.Serving.{IsWaiting}
-use Rattle.conn_laws.specs.Cutting.{IsClosingFor}
+use Rattle.conn_service.specs.Courses.Serving.{IsWaiting}
+use Rattle.conn_service.specs.Courses.Cutting.{IsClosingFor}
 
 -- ---- which events may be wanted
 

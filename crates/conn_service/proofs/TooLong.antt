@@ -11,21 +11,21 @@ use Rattle.tase_views.specs.declared.event.EventKind.{EventKind}
 use Rattle.tase_views.specs.declared.event.EventKind.TheVariants as events
 use Rattle.tase_views.specs.declared.reply.Answer.{Answer}
 use Rattle.node_core.specs.NodeState.{NodeState, with_entry}
-use Rattle.tase_map.specs.Inputs.{Item}
-use Rattle.tase_map.specs.Linked.{link_octets}
-use Rattle.tase_map.specs.Sent.{events_by, with_event}
+use Rattle.tase_conn.specs.Map.Inputs.{Item}
+use Rattle.tase_conn.specs.Map.Linked.{link_octets}
+use Rattle.tase_conn.specs.Map.Sent.{events_by, with_event}
 use Rattle.tase_conn.specs.declared.stage.ConnEnd.{ConnEnd}
 use Rattle.tase_conn.specs.declared.stage.Progress.{Progress}
 use Rattle.tase_conn.specs.declared.stage.Progress.TheVariants as progresses
 use Rattle.tase_conn.specs.Talking.{Talking, pending_of, is_leaving}
 use Rattle.tase_conn.specs.Places.{KeepsPlace}
 use Rattle.tase_conn.specs.Answering.{TellsAnswer, told_said, parting_octets}
-use Rattle.conn_laws.specs.Serving.{IsWaiting, Serves}
-use Rattle.conn_laws.specs.Cutting.{LeavesTooLong}
-use Rattle.conn_laws.specs.AnswerEnd.{end_answered}
-use Rattle.conn_laws.proofs.Answered.{answered_serves}
-use Rattle.conn_laws.proofs.Served.{next_asked}
-use Rattle.conn_laws.proofs.TooLong.{long_of, too_long_leaves}
+use Rattle.conn_service.specs.Courses.Serving.{IsWaiting, Serves}
+use Rattle.conn_service.specs.Courses.Cutting.{LeavesTooLong}
+use Rattle.conn_service.specs.Courses.AnswerEnd.{end_answered}
+use Rattle.conn_service.proofs.OfCourses.Answered.{answered_serves}
+use Rattle.conn_service.proofs.OfCourses.Served.{next_asked}
+use Rattle.conn_service.proofs.OfCourses.TooLong.{long_of, too_long_leaves}
 use Rattle.conn_service.specs.Attending.{IsAsking, IsParting, ClosesLeft, closing_said}
 use Rattle.conn_service.specs.Attending.{AnswersEvent, GoesOrCloses, IsNodesEnd, IsBrought}
 use Rattle.conn_service.specs.Attending.{CutsOff}

@@ -7,16 +7,16 @@ use Rattle.bilateral.specs.Rows.{CentreRows}
 use Rattle.tase_views.specs.Setup.{Setup}
 use Rattle.tase_views.specs.History.{Past}
 use Rattle.tase_views.specs.declared.event.EventKind.{EventKind}
-use Rattle.tase_map.specs.Inputs.{Item}
-use Rattle.tase_map.specs.Turns.{Turn}
+use Rattle.tase_conn.specs.Map.Inputs.{Item}
+use Rattle.tase_conn.specs.Map.Turns.{Turn}
 use Rattle.tase_conn.specs.declared.stage.PendingEvent.TheVariants as askeds
 use Rattle.tase_conn.specs.declared.stage.Progress.{Progress}
 use Rattle.tase_conn.specs.declared.stage.Progress.TheVariants as progresses
 use Rattle.tase_conn.specs.Talking.{Talking, pending_of, IsResting, IsFree}
 use Rattle.tase_conn.specs.Places.{ConnStandsAt, GoesBy, IsReadToEnd, ReadsNoMore}
 use Rattle.tase_conn.specs.Wanting.{WantsBy, WantsSo}
-use Rattle.conn_laws.specs.Serving.{Serves, IsWaiting}
-use Rattle.conn_laws.proofs.Ended.{wants_on}
+use Rattle.conn_service.specs.Courses.Serving.{Serves, IsWaiting}
+use Rattle.conn_service.proofs.OfCourses.Ended.{wants_on}
 use Rattle.conn_service.specs.Attending.{IsWanted, AnswersEvent}
 
 -- what is said on the way to what is wanted

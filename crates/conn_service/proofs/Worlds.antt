@@ -6,19 +6,19 @@ use Rattle.sbo_device.specs.declared.key.Key.{Key}
 use Rattle.stack_assoc.specs.Arrivals.{called}
 use Rattle.stack_assoc.specs.Expectations.{setup_after}
 use Rattle.stack_assoc.specs.Handing.{answers_to}
-use Rattle.stack_wire.specs.Tsdus.{refusal_tsdu}
+use Rattle.stack_assoc.specs.Wire.Tsdus.{refusal_tsdu}
 use Rattle.tpkt_cotp.specs.Written.{wire}
 use Rattle.tase_views.specs.History.{Past}
 use Rattle.tase_views.specs.OwnTables.{OwnTables, own_tables}
 use Rattle.tase_views.specs.View.{View, view_of}
-use Rattle.tase_map.specs.Inputs.{Item, text_given, link_has_ended}
-use Rattle.tase_map.specs.Readings.{Reading, reading_of}
-use Rattle.tase_map.specs.Turns.{Turn, offers, offers_badly, asks, concludes, releases, aborts}
-use Rattle.tase_map.specs.Turns.{breaks, ends, pauses, turns_told}
-use Rattle.tase_map.specs.Asks.{is_peers}
-use Rattle.tase_map.specs.Out.{octets_out, is_declined, early_octets}
-use Rattle.tase_map.specs.Sent.{association_octets}
-use Rattle.tase_map.specs.Linked.{opened_in, link_octets}
+use Rattle.tase_conn.specs.Map.Inputs.{Item, text_given, link_has_ended}
+use Rattle.tase_conn.specs.Map.Readings.{Reading, reading_of}
+use Rattle.tase_conn.specs.Map.Turns.{Turn, offers, offers_badly, asks, concludes, releases, aborts}
+use Rattle.tase_conn.specs.Map.Turns.{breaks, ends, pauses, turns_told}
+use Rattle.tase_conn.specs.Map.Asks.{is_peers}
+use Rattle.tase_conn.specs.Map.Out.{octets_out, is_declined, early_octets}
+use Rattle.tase_conn.specs.Map.Sent.{association_octets}
+use Rattle.tase_conn.specs.Map.Linked.{opened_in, link_octets}
 
 -- an association is sent the same over the same own tables and the same view
 sent-alike : (here there : CentreRows) (past other_past : Past) (key other : Key) (text : List ℕ)

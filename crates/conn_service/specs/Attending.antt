@@ -10,18 +10,18 @@ use Rattle.tase_views.specs.History.{Past, association_in}
 use Rattle.tase_views.specs.Outcomes.{refusal_of, answer_of}
 use Rattle.tase_views.specs.declared.event.EventKind.{EventKind}
 use Rattle.tase_views.specs.declared.event.EventKind.TheVariants as events
-use Rattle.tase_map.specs.Inputs.{Item}
-use Rattle.tase_map.specs.Asks.{asks_of}
-use Rattle.tase_map.specs.Sent.{events_by, with_event}
+use Rattle.tase_conn.specs.Map.Inputs.{Item}
+use Rattle.tase_conn.specs.Map.Asks.{asks_of}
+use Rattle.tase_conn.specs.Map.Sent.{events_by, with_event}
 use Rattle.tase_conn.specs.declared.stage.ConnEnd.{ConnEnd}
 use Rattle.tase_conn.specs.declared.stage.ConnEnd.TheVariants as conn_ends
 use Rattle.tase_conn.specs.declared.stage.Progress.TheVariants as progresses
 use Rattle.tase_conn.specs.Talking.{Talking, pending_of, conn_end_in, IsResting, is_leaving}
 use Rattle.tase_conn.specs.Answering.{parting_octets}
-use Rattle.conn_laws.specs.Serving.{Serves}
-use Rattle.conn_laws.specs.Cutting.{HasLeft}
-use Rattle.conn_laws.specs.AnswerEnd.{end_answered}
-use Rattle.tase_map.specs.Linked.{link_octets}
+use Rattle.conn_service.specs.Courses.Serving.{Serves}
+use Rattle.conn_service.specs.Courses.Cutting.{HasLeft}
+use Rattle.conn_service.specs.Courses.AnswerEnd.{end_answered}
+use Rattle.tase_conn.specs.Map.Linked.{link_octets}
 use Rattle.tase_conn.specs.PeerEnd.{peer_end}
 use Rattle.conn_service.specs.Served.{served, with_closed}
 use Rattle.conn_service.specs.Sends.{Sends, IsCutFor, IsSaidByEnd, first_refused}

@@ -13,14 +13,14 @@ use Rattle.tase_views.specs.declared.reply.Answer.TheVariants as answers
 use Rattle.tase_views.specs.declared.reply.ReportKind.{ReportKind}
 use Rattle.tase_views.specs.declared.fault.StepFault.{StepFault}
 use Rattle.tase_views.specs.declared.fault.StepFault.TheVariants as faults
-use Rattle.tase_map.specs.Inputs.{Item, text_given}
-use Rattle.tase_map.specs.Readings.{reading_of}
-use Rattle.tase_map.specs.Asks.{asks_of}
-use Rattle.tase_map.specs.Out.{abort_wire, first_too_long}
-use Rattle.tase_map.specs.Sent.{events_by, with_event}
+use Rattle.tase_conn.specs.Map.Inputs.{Item, text_given}
+use Rattle.tase_conn.specs.Map.Readings.{reading_of}
+use Rattle.tase_conn.specs.Map.Asks.{asks_of}
+use Rattle.tase_conn.specs.Map.Out.{abort_wire, first_too_long}
+use Rattle.tase_conn.specs.Map.Sent.{events_by, with_event}
 use Rattle.tase_conn.specs.declared.stage.ConnEnd.{ConnEnd}
 use Rattle.tase_conn.specs.declared.stage.ConnEnd.TheVariants as conn_ends
-use Rattle.tase_map.specs.Linked.{link_octets, detail_given}
+use Rattle.tase_conn.specs.Map.Linked.{link_octets, detail_given}
 use Rattle.tase_conn.specs.PeerEnd.{peer_end}
 
 -- ---- the events

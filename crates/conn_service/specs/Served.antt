@@ -7,10 +7,10 @@ use Rattle.tase_views.specs.Outcomes.{refusal_of, answer_of}
 use Rattle.tase_views.specs.declared.event.EventKind.{EventKind}
 use Rattle.tase_views.specs.declared.event.EventKind.TheVariants as events
 use Rattle.tase_views.specs.declared.fault.StepFault.{StepFault}
-use Rattle.tase_map.specs.Inputs.{Item}
-use Rattle.tase_map.specs.Sent.{with_event}
+use Rattle.tase_conn.specs.Map.Inputs.{Item}
+use Rattle.tase_conn.specs.Map.Sent.{with_event}
 use Rattle.tase_conn.specs.declared.stage.ConnEnd.{ConnEnd}
-use Rattle.conn_laws.specs.AnswerEnd.{end_answered}
+use Rattle.conn_service.specs.Courses.AnswerEnd.{end_answered}
 
 -- the events of a seat that a node takes, the history behind them, why it refuses the next, if it
 -- does, and the end that the answer to the last of them brings, if it brings one

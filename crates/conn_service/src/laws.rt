@@ -7,9 +7,9 @@ ghost use Rattle.tase_views.specs.Setup.{Setup};
 ghost use Rattle.tase_views.specs.History.{Past, association_in};
 ghost use Rattle.tase_views.specs.OwnTables.{own_tables};
 ghost use Rattle.tase_views.specs.View.{view_of};
-ghost use Rattle.tase_map.specs.Inputs.{Item, IsLinkInput};
-ghost use Rattle.tase_map.specs.Asks.{is_peers};
-ghost use Rattle.tase_map.specs.Linked.{opened_in, link_octets};
+ghost use Rattle.tase_conn.specs.Map.Inputs.{Item, IsLinkInput};
+ghost use Rattle.tase_conn.specs.Map.Asks.{is_peers};
+ghost use Rattle.tase_conn.specs.Map.Linked.{opened_in, link_octets};
 ghost use Rattle.tase_conn.specs.declared.stage.ConnEnd.{ConnEnd};
 ghost use Rattle.conn_service.specs.Sends.{Sends};
 

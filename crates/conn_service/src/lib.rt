@@ -2,7 +2,10 @@
 #![tactic(auto)]
 
 mod attending;
+pub mod courses;
 mod laws;
 
 pub use attending::attend;
 pub use laws::{ended_connections_are_closed, two_worlds_are_sent_alike};
+pub use node_core as node;
+pub use tase_conn as connection;

@@ -1,6 +1,6 @@
 //! What has happened so far to the objects of one outside, which lie in several threads.
 
-use std::sync::atomic::{AtomicBool, AtomicU64, Ordering};
+use std::sync::atomic::{AtomicU64, Ordering};
 
 /// What standard input waits for, and where links meet.
 #[derive(Clone, Copy, Drop)]
@@ -15,14 +15,31 @@ pub struct Plan {
     pub meeting: Option<u64>,
 }
 
-/// What has happened so far.
+/// What an object notes.
+#[derive(Clone, Copy)]
+pub(crate) enum Event {
+    /// A call of accept has ended.
+    Accept,
+    /// The listener failed: no more links will be served.
+    FailedAccept,
+    /// A link was closed.
+    Close,
+    /// A reading of the clock has come or failed.
+    Reading,
+    /// A link has come to where links meet.
+    Meeting,
+    /// A link waited for the others in vain.
+    Missed,
+}
+
+/// How often each has happened so far.
 #[derive(Drop)]
 pub(crate) struct Board {
     plan: Plan,
     accepts: AtomicU64,
-    failed: AtomicBool,
+    failed: AtomicU64,
     met: AtomicU64,
-    missed: AtomicBool,
+    missed: AtomicU64,
     closed: AtomicU64,
     readings: AtomicU64,
 }
@@ -32,44 +49,32 @@ impl Board {
         Board {
             plan,
             accepts: AtomicU64::new(0),
-            failed: AtomicBool::new(false),
+            failed: AtomicU64::new(0),
             met: AtomicU64::new(0),
-            missed: AtomicBool::new(false),
+            missed: AtomicU64::new(0),
             closed: AtomicU64::new(0),
             readings: AtomicU64::new(0),
         }
     }
 
-    pub(crate) fn note_accept(&self) {
-        self.accepts.fetch_add(1, Ordering::SeqCst);
+    fn count(&self, event: Event) -> &AtomicU64 {
+        match event {
+            Event::Accept => &self.accepts,
+            Event::FailedAccept => &self.failed,
+            Event::Close => &self.closed,
+            Event::Reading => &self.readings,
+            Event::Meeting => &self.met,
+            Event::Missed => &self.missed,
+        }
     }
 
-    /// The listener failed: no more links will be served.
-    pub(crate) fn note_failed_accept(&self) {
-        self.failed.store(true, Ordering::SeqCst);
-    }
-
-    pub(crate) fn note_close(&self) {
-        self.closed.fetch_add(1, Ordering::SeqCst);
-    }
-
-    pub(crate) fn note_reading(&self) {
-        self.readings.fetch_add(1, Ordering::SeqCst);
-    }
-
-    /// A link has come to where links meet.
-    pub(crate) fn note_meeting(&self) {
-        self.met.fetch_add(1, Ordering::SeqCst);
-    }
-
-    /// A link waited for the others in vain.
-    pub(crate) fn note_missed(&self) {
-        self.missed.store(true, Ordering::SeqCst);
+    pub(crate) fn note(&self, event: Event) {
+        self.count(event).fetch_add(1, Ordering::SeqCst);
     }
 
     /// Whether a link waited for the others in vain.
     pub(crate) fn is_missed(&self) -> bool {
-        self.missed.load(Ordering::SeqCst)
+        self.missed.load(Ordering::SeqCst) > 0
     }
 
     /// Whether links meet at the recv of this number.
@@ -84,7 +89,7 @@ impl Board {
 
     /// Whether all has happened that standard input waits for, or can't happen any more.
     pub(crate) fn is_served(&self) -> bool {
-        self.failed.load(Ordering::SeqCst)
+        self.failed.load(Ordering::SeqCst) > 0
             || (self.closed.load(Ordering::SeqCst) >= self.plan.links
                 && self.accepts.load(Ordering::SeqCst) >= self.plan.accepts
                 && self.readings.load(Ordering::SeqCst) >= self.plan.readings)

@@ -1,9 +1,10 @@
 //! A clock whose readings are noted.
 ghost use Rattle.std.specs.Prelude.{◌≡◌};
-ghost use Rattle.outside_links.specs.Clocks.{ReadsClock};
+ghost use Rattle.outside.specs.Links.Clocks.{ReadsClock};
 
+use crate::board::Event;
 use crate::watch::Watch;
-use outside_links::Clock;
+use outside::links::Clock;
 use std::marker::Model;
 use std::time;
 
@@ -45,7 +46,7 @@ impl<C: Clock, R: time::Clock> Clock for HeldClock<C, R> {
         ensures { ReadsClock (C.told self.old) (C.told self.new) result }
     {
         let reading = self.clock.now();
-        self.watch.note_reading();
+        self.watch.note(Event::Reading);
         self.watch.rest();
         reading
     }

@@ -1,15 +1,15 @@
 //! An outside round another.
 ghost use Rattle.std.specs.Prelude.{◌≡◌, IfOk, option_map};
-ghost use Rattle.outside_names.specs.Outside.{OpensIn, ClosesIn, OpensOut, ClosesOut};
-ghost use Rattle.outside_names.specs.Outside.{Listens, ClosesListener, Connects, ClosesLink};
-ghost use Rattle.outside_names.specs.Outside.{OpensClock, ClosesClock};
+ghost use Rattle.outside.specs.Names.Outside.{OpensIn, ClosesIn, OpensOut, ClosesOut};
+ghost use Rattle.outside.specs.Names.Outside.{Listens, ClosesListener, Connects, ClosesLink};
+ghost use Rattle.outside.specs.Names.Outside.{OpensClock, ClosesClock};
 
 use crate::board::Plan;
 use crate::clock::HeldClock;
 use crate::listener::HeldListener;
 use crate::source::HeldSource;
 use crate::watch::Watch;
-use outside_names::Outside;
+use outside::names::Outside;
 use std::alloc::{AllocError, Global};
 use std::marker::Model;
 use std::time;

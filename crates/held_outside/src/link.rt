@@ -1,10 +1,11 @@
 //! A link that may meet others.
 ghost use Rattle.std.specs.Prelude.{◌≡◌, ◌<◌, length};
-ghost use Rattle.outside_links.specs.Links.{ReceivesPiece, SendsPiece, closed_link};
+ghost use Rattle.outside.specs.Links.Links.{ReceivesPiece, SendsPiece, closed_link};
 
+use crate::board::Event;
 use crate::watch::Watch;
 use outside::WriteEnd;
-use outside_links::{Link, Recv};
+use outside::links::{Link, Recv};
 use std::marker::Model;
 use std::time;
 
@@ -76,7 +77,7 @@ impl<L: Link, R: time::Clock> Link for HeldLink<L, R> {
         self.link.close();
         if !self.is_closed {
             self.is_closed = true;
-            self.watch.note_close();
+            self.watch.note(Event::Close);
         }
     }
 

@@ -1,11 +1,12 @@
 //! A listener whose calls are noted.
 ghost use Rattle.std.specs.Prelude.{◌≡◌};
-ghost use Rattle.outside_links.specs.Listeners.{AcceptsLink, MayRetire, RetiredIsWithin};
-ghost use Rattle.outside_links.specs.Listeners.{link_given, is_failed_accept, with_retired};
+ghost use Rattle.outside.specs.Links.Listeners.{AcceptsLink, MayRetire, RetiredIsWithin};
+ghost use Rattle.outside.specs.Links.Listeners.{link_given, is_failed_accept, with_retired};
 
+use crate::board::Event;
 use crate::link::HeldLink;
 use crate::watch::Watch;
-use outside_links::{Accept, Listener};
+use outside::links::{Accept, Listener};
 use std::marker::Model;
 use std::time;
 
@@ -51,7 +52,7 @@ impl<N: Listener, R: time::Clock + Copy> Listener for HeldListener<N, R> {
         ensures within { RetiredIsWithin (N.told self.new) }
     {
         let accept = self.listener.accept();
-        self.watch.note_accept();
+        self.watch.note(Event::Accept);
         match accept {
             Accept::Link(link) => Accept::Link(HeldLink::new(link, self.watch.share())),
             Accept::Idle => {
@@ -63,7 +64,7 @@ impl<N: Listener, R: time::Clock + Copy> Listener for HeldListener<N, R> {
                 Accept::End
             }
             Accept::Failed => {
-                self.watch.note_failed_accept();
+                self.watch.note(Event::FailedAccept);
                 Accept::Failed
             }
         }

@@ -1,7 +1,7 @@
 //! How an object notes what happens to it, and waits for what happens to others.
 ghost use Rattle.std.specs.Prelude.{◌≡◌};
 
-use crate::board::{Board, Plan};
+use crate::board::{Board, Event, Plan};
 use std::alloc::{AllocError, Global};
 use std::sync::Arc;
 use std::thread;
@@ -37,27 +37,9 @@ impl<R> Watch<R> {
         }
     }
 
-    pub(crate) fn note_accept(&self) {
+    pub(crate) fn note(&self, event: Event) {
         if let Some(board) = self.board() {
-            board.note_accept();
-        }
-    }
-
-    pub(crate) fn note_failed_accept(&self) {
-        if let Some(board) = self.board() {
-            board.note_failed_accept();
-        }
-    }
-
-    pub(crate) fn note_close(&self) {
-        if let Some(board) = self.board() {
-            board.note_close();
-        }
-    }
-
-    pub(crate) fn note_reading(&self) {
-        if let Some(board) = self.board() {
-            board.note_reading();
+            board.note(event);
         }
     }
 
@@ -112,13 +94,13 @@ impl<R: time::Clock> Watch<R> {
         if !board.is_meeting(number) {
             return;
         }
-        board.note_meeting();
+        board.note(Event::Meeting);
         for _ in 0..LOOKS {
             if board.have_met() {
                 return;
             }
             self.rest();
         }
-        board.note_missed();
+        board.note(Event::Missed);
     }
 }

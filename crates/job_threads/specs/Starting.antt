@@ -1,8 +1,8 @@
 -- What contracts see of a spawner of threads, and which starts it refuses by itself.
 use Rattle.std.specs.Prelude.{◌≡◌, ℕ, List, Contains}
 use Rattle.outside.specs.Faults.{next_count}
-use Rattle.outside_links.specs.Jobs.{SpawnerTold}
-use Rattle.outside_links.specs.declared.job.Start.{Start}
+use Rattle.outside.specs.Links.Jobs.{SpawnerTold}
+use Rattle.outside.specs.declared.links.job.Start.{Start}
 use Rattle.job_threads.specs.declared.thread_job.Unstarted.{Unstarted}
 use Rattle.job_threads.specs.declared.thread_job.Unstarted.TheVariants.{Memory, Refused}
 

@@ -1,14 +1,14 @@
 //! A spawner over threads of std.
 ghost use Rattle.std.specs.Prelude.{◌≡◌, ◌↔◌, [], Contains, IsTrue};
 ghost use Rattle.outside.specs.Faults.{next_count};
-ghost use Rattle.outside_links.specs.Jobs.{StartsJob, FinishesFirst};
-ghost use Rattle.outside_links.specs.declared.job.Start.{Start};
+ghost use Rattle.outside.specs.Links.Jobs.{StartsJob, FinishesFirst};
+ghost use Rattle.outside.specs.declared.links.job.Start.{Start};
 ghost use Rattle.job_threads.specs.Starting.{SpawnerState, RefusesNext, HandsBack};
 
 use crate::started::{StartedJob, settle_all};
 use crate::thread_job::Unstarted;
 use outside::count_fault;
-use outside_links::{Job, Start};
+use outside::links::{Job, Start};
 use std::alloc::Global;
 use std::collections::VecDeque;
 use std::marker::Model;

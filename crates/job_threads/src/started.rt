@@ -3,7 +3,7 @@ ghost use Rattle.std.specs.Prelude.{◌≡◌, Some};
 ghost use Rattle.job_threads.specs.Threading.{IsWorkOf, IsSpawned};
 
 use crate::thread_job::{JobThread, Unstarted, spawn_job};
-use outside_links::Job;
+use outside::links::Job;
 use std::alloc::Global;
 use std::collections::VecDeque;
 use std::marker::Model;

@@ -2,7 +2,7 @@
 ghost use Rattle.std.specs.Prelude.{◌≡◌};
 ghost use Rattle.job_threads.specs.Threading.{ComesOf, IsSpawned};
 
-use outside_links::Job;
+use outside::links::Job;
 use std::alloc::Global;
 use std::marker::Model;
 use std::snapshot::Snapshot;

@@ -6,3 +6,4 @@ pub mod DataLengths
 pub mod NameRead
 pub mod NameWritten
 pub mod OutcomeRead
+pub mod OfText

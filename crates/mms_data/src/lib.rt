@@ -6,6 +6,7 @@ mod data;
 mod laws;
 mod object_name;
 mod outcome;
+pub mod text;
 
 pub use access_laws::{
     names_have_one_reading, outcomes_have_one_reading, written_names_are_read,

@@ -13,3 +13,5 @@ mod WorkedPdus
 pub mod SpelledCodes
 pub mod SpelledPdus
 pub mod PdusWritten
+pub mod OfAccess
+pub mod OfNames

@@ -10,15 +10,15 @@ use Rattle.mms_services.specs.Requests.{unknown_request, set_request, one_reques
 use Rattle.mms_services.specs.Responses.{set_response, one_response}
 use Rattle.mms_services.specs.Pdus.{requested, responded, invoke_in, confirmed_request}
 use Rattle.mms_services.specs.Pdus.{confirmed_response, frame_pdu, one_pdu, pdu}
-use Rattle.mms_names.proofs.NameListsRead.{name_list_request_contents, name_list_response_contents}
+use Rattle.mms_services.proofs.OfNames.NameListsRead.{name_list_request_contents, name_list_response_contents}
 use Rattle.mms_services.proofs.IdentitiesRead.{identify_request_contents, identify_response_contents}
-use Rattle.mms_access.proofs.ReadLaws.{read_request_contents, read_response_contents}
-use Rattle.mms_access.proofs.WriteLaws.{write_request_contents, write_response_contents}
-use Rattle.mms_names.proofs.SetsRead.{define_request_contents, members_request_contents}
-use Rattle.mms_names.proofs.SetsRead.{members_response_contents, delete_request_contents}
-use Rattle.mms_names.proofs.SetsRead.{delete_response_contents}
+use Rattle.mms_services.proofs.OfAccess.ReadLaws.{read_request_contents, read_response_contents}
+use Rattle.mms_services.proofs.OfAccess.WriteLaws.{write_request_contents, write_response_contents}
+use Rattle.mms_services.proofs.OfNames.SetsRead.{define_request_contents, members_request_contents}
+use Rattle.mms_services.proofs.OfNames.SetsRead.{members_response_contents, delete_request_contents}
+use Rattle.mms_services.proofs.OfNames.SetsRead.{delete_response_contents}
 use Rattle.mms_services.proofs.ErrorsRead.{error_pdu_contents}
-use Rattle.mms_access.proofs.ReportLaws.{report_pdu_contents}
+use Rattle.mms_services.proofs.OfAccess.ReportLaws.{report_pdu_contents}
 use Rattle.mms_services.proofs.RejectsRead.{reject_pdu_contents}
 use Rattle.mms_services.proofs.InitiatesRead.{initiate_contents}
 

@@ -12,15 +12,15 @@ use Rattle.mms_services.specs.declared.response.Response.{Response}
 use Rattle.mms_services.specs.declared.response.Response.TheVariants as responses
 use Rattle.mms_services.specs.declared.pdu.MmsPdu.{MmsPdu}
 use Rattle.mms_services.specs.declared.pdu.MmsPdu.TheVariants as pdus
-use Rattle.mms_names.specs.NameLists.{name_list_request_octets, name_list_response_octets}
+use Rattle.mms_services.specs.Names.NameLists.{name_list_request_octets, name_list_response_octets}
 use Rattle.mms_services.specs.Identities.{identify_response_octets}
-use Rattle.mms_access.specs.Reads.{read_request_octets, read_response_octets}
-use Rattle.mms_access.specs.Writes.{write_request_octets, write_response_octets}
-use Rattle.mms_names.specs.Defines.{define_request_octets}
-use Rattle.mms_names.specs.MemberLists.{members_request_octets, members_response_octets}
-use Rattle.mms_names.specs.Deletes.{delete_request_octets, delete_response_octets}
+use Rattle.mms_services.specs.Access.Reads.{read_request_octets, read_response_octets}
+use Rattle.mms_services.specs.Access.Writes.{write_request_octets, write_response_octets}
+use Rattle.mms_services.specs.Names.Defines.{define_request_octets}
+use Rattle.mms_services.specs.Names.MemberLists.{members_request_octets, members_response_octets}
+use Rattle.mms_services.specs.Names.Deletes.{delete_request_octets, delete_response_octets}
 use Rattle.mms_services.specs.Errors.{error_pdu_octets}
-use Rattle.mms_access.specs.Reports.{report_pdu_octets}
+use Rattle.mms_services.specs.Access.Reports.{report_pdu_octets}
 use Rattle.mms_services.specs.Rejects.{reject_pdu_octets}
 use Rattle.mms_services.specs.Initiates.{initiate_octets}
 use Rattle.mms_services.specs.Requests.{set_request, one_request}
@@ -31,11 +31,11 @@ use Rattle.mms_services.specs.PduOctets.{request_octets, response_octets, invoke
 use Rattle.mms_services.specs.Held.{IsHeldRequest, IsHeldResponse, IsHeldPdu}
 use Rattle.ber_values.proofs.Pieces.{contents-few}
 use Rattle.mms_services.proofs.ShortSpelled.{initiate-spelled, error_pdu-spelled, reject_pdu-spelled, identify_request-spelled, identify_response-spelled}
-use Rattle.mms_names.proofs.NameListsSpelled.{name_list_request-spelled, name_list_response-spelled}
-use Rattle.mms_access.proofs.ReadWritten.{read_request-spelled, read_response-spelled}
-use Rattle.mms_access.proofs.WriteWritten.{write_request-spelled, write_response-spelled}
-use Rattle.mms_access.proofs.ReportWritten.{report_pdu-spelled}
-use Rattle.mms_names.proofs.SetsWritten.{define_request-spelled, members_request-spelled, members_response-spelled, delete_request-spelled, delete_response-spelled, unsigned-written}
+use Rattle.mms_services.proofs.OfNames.NameListsSpelled.{name_list_request-spelled, name_list_response-spelled}
+use Rattle.mms_services.proofs.OfAccess.ReadWritten.{read_request-spelled, read_response-spelled}
+use Rattle.mms_services.proofs.OfAccess.WriteWritten.{write_request-spelled, write_response-spelled}
+use Rattle.mms_services.proofs.OfAccess.ReportWritten.{report_pdu-spelled}
+use Rattle.mms_services.proofs.OfNames.SetsWritten.{define_request-spelled, members_request-spelled, members_response-spelled, delete_request-spelled, delete_response-spelled, unsigned-written}
 
 request-writes : (at : ℕ) (r : Request) → IsWritableRequest r → IsHeldRequest r
     → length (request_octets r) < 2 ^ 32 → Writes one_request at r (request_octets r)

@@ -10,7 +10,7 @@ use Rattle.ber_values.specs.Parts.{part_in, maybe_in, contents_as}
 use Rattle.ber_values.specs.Leaves.{integer, unsigned, octet, raw, visible, fixed}
 use Rattle.ber_values.proofs.Externals.{integer-few, unsigned_spelled}
 use Rattle.ber_values.proofs.WrittenParts.{Writes, Ends, ends_of, then-ends, map-ends, part-writes, all-spelled, none_passed}
-use Rattle.mms_names.proofs.NameListsSpelled.{integer-writes}
+use Rattle.mms_services.proofs.OfNames.NameListsSpelled.{integer-writes}
 use Rattle.mms_services.specs.declared.coded.Coded.{Coded}
 use Rattle.mms_services.specs.declared.error.ErrorPdu.{ErrorPdu}
 use Rattle.mms_services.specs.declared.reject.RejectPdu.{RejectPdu}

@@ -7,7 +7,7 @@ use Rattle.ber_values.specs.Grammars.{then_in, branch_in, refused}
 use Rattle.ber_values.specs.Parts.{part_in, contents_as}
 use Rattle.ber_values.specs.Leaves.{octet}
 use Rattle.ber_values.proofs.Holding.{part-holds, map-holds, as-holds, all-holds}
-use Rattle.mms_names.proofs.SpelledNames.{then-holds}
+use Rattle.mms_services.proofs.OfNames.SpelledNames.{then-holds}
 use Rattle.mms_services.specs.declared.coded.Coded.{Coded}
 use Rattle.mms_services.specs.declared.error.ErrorPdu.{ErrorPdu}
 use Rattle.mms_services.specs.declared.reject.RejectPdu.{RejectPdu}

@@ -17,8 +17,8 @@ use Rattle.mms_services.specs.Responses.{set_response, one_response}
 use Rattle.mms_services.specs.Pdus.{requested, responded, confirmed_request, confirmed_response, frame_pdu, one_pdu, pdu, without_invoke}
 use Rattle.mms_services.specs.Lawful.{IsLawfulRequest, IsLawfulResponse, IsLawfulPdu}
 use Rattle.ber_values.proofs.Holding.{part-holds, choose-holds, map-holds, as-holds, all-holds}
-use Rattle.mms_access.proofs.SpelledAccess.{read_request-holds, read_response-holds, write_request-holds, report_pdu-holds}
-use Rattle.mms_names.proofs.SpelledNames.{then-holds, name_list_request-holds, name_list_response-holds, define_request-holds, members_response-holds, delete_request-holds}
+use Rattle.mms_services.proofs.OfAccess.SpelledAccess.{read_request-holds, read_response-holds, write_request-holds, report_pdu-holds}
+use Rattle.mms_services.proofs.OfNames.SpelledNames.{then-holds, name_list_request-holds, name_list_response-holds, define_request-holds, members_response-holds, delete_request-holds}
 use Rattle.mms_services.proofs.SpelledCodes.{error_pdu-holds, reject_pdu-holds}
 
 unknown-holds : (at : ℕ) (os : List ℕ) (t : Taken Request) → unknown_request.begins at os t → IsLawfulRequest t.value

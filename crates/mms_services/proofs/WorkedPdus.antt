@@ -23,17 +23,17 @@ use Rattle.mms_data.specs.NameOctets.{identifier, of_domain, domain_name, one_na
 use Rattle.mms_services.specs.declared.pdu.MmsPdu.TheVariants as pdus
 use Rattle.mms_services.specs.declared.request.Request.TheVariants as requests
 use Rattle.mms_services.specs.declared.response.Response.TheVariants as responses
-use Rattle.mms_access.specs.declared.spec.Spec.TheVariants as specs
+use Rattle.mms_services.specs.declared.access.spec.Spec.TheVariants as specs
 use Rattle.mms_services.specs.Coded.{by_first, coded_in}
 use Rattle.mms_services.specs.Errors.{error_class, service_error, error_of, error_pdu}
 use Rattle.mms_services.specs.Rejects.{reject_of, reject_pdu}
 use Rattle.mms_services.specs.Identities.{identify_request, some_syntaxes, identify_response}
 use Rattle.mms_services.specs.Initiates.{initiate_detail, initiate_of, initiate}
-use Rattle.mms_access.specs.Specifications.{sole_name, sole_variable, variable, variables}
-use Rattle.mms_access.specs.Specifications.{specification, sole_spec}
-use Rattle.mms_access.specs.Reads.{echo_in, read_asked, read_answered, read_request}
-use Rattle.mms_access.specs.Reads.{read_response}
-use Rattle.mms_access.specs.Reports.{reported, report_results, report, report_pdu}
+use Rattle.mms_services.specs.Access.Specifications.{sole_name, sole_variable, variable, variables}
+use Rattle.mms_services.specs.Access.Specifications.{specification, sole_spec}
+use Rattle.mms_services.specs.Access.Reads.{echo_in, read_asked, read_answered, read_request}
+use Rattle.mms_services.specs.Access.Reads.{read_response}
+use Rattle.mms_services.specs.Access.Reports.{reported, report_results, report, report_pdu}
 use Rattle.mms_services.specs.Requests.{unknown_request, set_request, one_request}
 use Rattle.mms_services.specs.Responses.{set_response, one_response}
 use Rattle.mms_services.specs.Pdus.{invoke_in, confirmed_request, confirmed_response, frame_pdu}

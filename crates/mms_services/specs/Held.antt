@@ -8,13 +8,13 @@ use Rattle.mms_services.specs.declared.response.Response.{Response}
 use Rattle.mms_services.specs.declared.response.Response.TheVariants as responses
 use Rattle.mms_services.specs.declared.pdu.MmsPdu.{MmsPdu}
 use Rattle.mms_services.specs.declared.pdu.MmsPdu.TheVariants as pdus
-use Rattle.mms_access.specs.Specifications.{IsNamedSpec}
-use Rattle.mms_access.specs.Reads.{IsHeldReadResponse}
-use Rattle.mms_access.specs.Writes.{IsHeldWriteRequest}
-use Rattle.mms_names.specs.Defines.{IsNamedDefine}
-use Rattle.mms_names.specs.MemberLists.{IsNamedSet, IsNamedMembers}
-use Rattle.mms_names.specs.Deletes.{IsNamedDelete, IsCounted}
-use Rattle.mms_access.specs.Reports.{IsHeldReport}
+use Rattle.mms_services.specs.Access.Specifications.{IsNamedSpec}
+use Rattle.mms_services.specs.Access.Reads.{IsHeldReadResponse}
+use Rattle.mms_services.specs.Access.Writes.{IsHeldWriteRequest}
+use Rattle.mms_services.specs.Names.Defines.{IsNamedDefine}
+use Rattle.mms_services.specs.Names.MemberLists.{IsNamedSet, IsNamedMembers}
+use Rattle.mms_services.specs.Names.Deletes.{IsNamedDelete, IsCounted}
+use Rattle.mms_services.specs.Access.Reports.{IsHeldReport}
 use Rattle.mms_services.specs.Initiates.{IsHeldInitiate}
 
 abbrev pub IsHeldRequest : Request → Type 0

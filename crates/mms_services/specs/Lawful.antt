@@ -8,13 +8,13 @@ use Rattle.mms_services.specs.declared.error.ErrorPdu.{ErrorPdu}
 use Rattle.mms_services.specs.declared.reject.RejectPdu.{RejectPdu}
 use Rattle.mms_services.specs.declared.pdu.MmsPdu.{MmsPdu}
 use Rattle.mms_services.specs.declared.pdu.MmsPdu.TheVariants as pdus
-use Rattle.mms_names.specs.NameLists.{IsNamedRequest, IsNamedResponse}
-use Rattle.mms_access.specs.Reads.{IsReadRequest, IsReadResponse}
-use Rattle.mms_access.specs.Writes.{IsWriteRequest}
-use Rattle.mms_names.specs.Defines.{IsDefine}
-use Rattle.mms_names.specs.MemberLists.{IsMembers}
-use Rattle.mms_names.specs.Deletes.{IsDelete}
-use Rattle.mms_access.specs.Reports.{IsReport}
+use Rattle.mms_services.specs.Names.NameLists.{IsNamedRequest, IsNamedResponse}
+use Rattle.mms_services.specs.Access.Reads.{IsReadRequest, IsReadResponse}
+use Rattle.mms_services.specs.Access.Writes.{IsWriteRequest}
+use Rattle.mms_services.specs.Names.Defines.{IsDefine}
+use Rattle.mms_services.specs.Names.MemberLists.{IsMembers}
+use Rattle.mms_services.specs.Names.Deletes.{IsDelete}
+use Rattle.mms_services.specs.Access.Reports.{IsReport}
 
 -- lists and names have lengths that they may have, and data are lawful
 abbrev pub IsLawfulRequest : Request → Type 0

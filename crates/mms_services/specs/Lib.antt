@@ -12,3 +12,5 @@ pub mod Lawful
 pub mod PduOctets
 pub mod Held
 pub mod OneNumber
+pub mod Access
+pub mod Names

@@ -8,15 +8,15 @@ use Rattle.mms_services.specs.declared.response.Response.{Response}
 use Rattle.mms_services.specs.declared.response.Response.TheVariants as responses
 use Rattle.mms_services.specs.declared.pdu.MmsPdu.{MmsPdu}
 use Rattle.mms_services.specs.declared.pdu.MmsPdu.TheVariants as pdus
-use Rattle.mms_names.specs.NameLists.{name_list_request_octets, name_list_response_octets}
+use Rattle.mms_services.specs.Names.NameLists.{name_list_request_octets, name_list_response_octets}
 use Rattle.mms_services.specs.Identities.{identify_response_octets}
-use Rattle.mms_access.specs.Reads.{read_request_octets, read_response_octets}
-use Rattle.mms_access.specs.Writes.{write_request_octets, write_response_octets}
-use Rattle.mms_names.specs.Defines.{define_request_octets}
-use Rattle.mms_names.specs.MemberLists.{members_request_octets, members_response_octets}
-use Rattle.mms_names.specs.Deletes.{delete_request_octets, delete_response_octets}
+use Rattle.mms_services.specs.Access.Reads.{read_request_octets, read_response_octets}
+use Rattle.mms_services.specs.Access.Writes.{write_request_octets, write_response_octets}
+use Rattle.mms_services.specs.Names.Defines.{define_request_octets}
+use Rattle.mms_services.specs.Names.MemberLists.{members_request_octets, members_response_octets}
+use Rattle.mms_services.specs.Names.Deletes.{delete_request_octets, delete_response_octets}
 use Rattle.mms_services.specs.Errors.{error_pdu_octets}
-use Rattle.mms_access.specs.Reports.{report_pdu_octets}
+use Rattle.mms_services.specs.Access.Reports.{report_pdu_octets}
 use Rattle.mms_services.specs.Rejects.{reject_pdu_octets}
 use Rattle.mms_services.specs.Initiates.{initiate_octets, IsFullInitiate}
 use Rattle.mms_services.specs.Lawful.{IsLawfulRequest, IsLawfulPdu}

@@ -15,7 +15,7 @@ use Rattle.mms_services.specs.declared.pdu.MmsPdu.TheVariants as pdus
 use Rattle.mms_services.specs.Requests.{one_request}
 use Rattle.mms_services.specs.Responses.{one_response}
 use Rattle.mms_services.specs.Errors.{error_pdu}
-use Rattle.mms_access.specs.Reports.{report_pdu}
+use Rattle.mms_services.specs.Access.Reports.{report_pdu}
 use Rattle.mms_services.specs.Rejects.{reject_pdu}
 use Rattle.mms_services.specs.Initiates.{initiate}
 

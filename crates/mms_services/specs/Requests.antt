@@ -4,13 +4,13 @@ use Rattle.ber_values.specs.Passing.{skip}
 use Rattle.ber_values.specs.Parts.{choose_in, contents_as}
 use Rattle.mms_services.specs.declared.request.Request.{Request}
 use Rattle.mms_services.specs.declared.request.Request.TheVariants as services
-use Rattle.mms_names.specs.NameLists.{name_list_request}
+use Rattle.mms_services.specs.Names.NameLists.{name_list_request}
 use Rattle.mms_services.specs.Identities.{identify_request}
-use Rattle.mms_access.specs.Reads.{read_request}
-use Rattle.mms_access.specs.Writes.{write_request}
-use Rattle.mms_names.specs.Defines.{define_request}
-use Rattle.mms_names.specs.MemberLists.{members_request}
-use Rattle.mms_names.specs.Deletes.{delete_request}
+use Rattle.mms_services.specs.Access.Reads.{read_request}
+use Rattle.mms_services.specs.Access.Writes.{write_request}
+use Rattle.mms_services.specs.Names.Defines.{define_request}
+use Rattle.mms_services.specs.Names.MemberLists.{members_request}
+use Rattle.mms_services.specs.Names.Deletes.{delete_request}
 
 -- any other service: an element of the context class with a sound head
 unfoldable pub unknown_request : Grammar Request

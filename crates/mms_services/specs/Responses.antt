@@ -5,12 +5,12 @@ use Rattle.ber_values.specs.Parts.{part_in, choose_in, contents_as}
 use Rattle.ber_values.specs.Leaves.{fixed}
 use Rattle.mms_services.specs.declared.response.Response.{Response}
 use Rattle.mms_services.specs.declared.response.Response.TheVariants as services
-use Rattle.mms_names.specs.NameLists.{name_list_response}
+use Rattle.mms_services.specs.Names.NameLists.{name_list_response}
 use Rattle.mms_services.specs.Identities.{identify_response}
-use Rattle.mms_access.specs.Reads.{read_response}
-use Rattle.mms_access.specs.Writes.{write_response}
-use Rattle.mms_names.specs.MemberLists.{members_response}
-use Rattle.mms_names.specs.Deletes.{delete_response}
+use Rattle.mms_services.specs.Access.Reads.{read_response}
+use Rattle.mms_services.specs.Access.Writes.{write_response}
+use Rattle.mms_services.specs.Names.MemberLists.{members_response}
+use Rattle.mms_services.specs.Names.Deletes.{delete_response}
 
 -- a service of named variable lists; that one is defined has no contents
 unfoldable pub set_response : Grammar Response

@@ -1,12 +1,14 @@
 //! The protocol data units of MMS (ISO 9506-2).
 #![tactic(auto)]
 
+pub mod access;
 mod coded;
 mod error;
 mod fault;
 mod identify;
 mod initiate;
 mod laws;
+pub mod names;
 mod pdu;
 mod reject;
 mod request;

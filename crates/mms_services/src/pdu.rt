@@ -14,6 +14,7 @@ ghost use Rattle.mms_services.specs.Pdus.{confirmed_request, confirmed_response,
 ghost use Rattle.mms_services.specs.Lawful.{IsLawfulPdu};
 ghost use Rattle.mms_services.specs.Pdus.{one_pdu, pdu, IsInvokeOf, without_invoke};
 
+use crate::access::{ReportPdu, put_report_pdu, report_pdu_from, report_pdu_len};
 use crate::error::{ErrorPdu, error_pdu_from, error_pdu_len, put_error_pdu};
 use crate::fault::{MmsFault, numbered};
 use crate::initiate::{Initiate, initiate_from, initiate_len, put_initiate};
@@ -24,7 +25,6 @@ use ber_values::{
     MOST_LENGTH, Part, Stop, add_len, has_tag, natural_len, octets_from, or_undo, part_len, settle,
     take_end, take_part, write_head, write_natural,
 };
-use mms_access::{ReportPdu, put_report_pdu, report_pdu_from, report_pdu_len};
 use std::alloc::{AllocError, Global};
 
 /// A protocol data unit.

@@ -14,20 +14,20 @@ ghost use Rattle.mms_services.specs.declared.request.Request.TheVariants as serv
 ghost use Rattle.mms_services.specs.Requests.{unknown_request, set_request};
 ghost use Rattle.mms_services.specs.Requests.{one_request};
 
-use crate::identify::identify_request_from;
-use ber_values::{
-    BerFault, MOST_LENGTH, Stop, has_tag, is_context, part_len, refused, skip_part, take_part,
-    write_head,
-};
-use mms_access::{
+use crate::access::{
     ReadRequest, WriteRequest, put_read_request, put_write_request, read_request_from,
     read_request_len, write_request_from, write_request_len,
 };
-use mms_names::{
+use crate::identify::identify_request_from;
+use crate::names::{
     DefineRequest, DeleteRequest, MembersRequest, NameListRequest, define_request_from,
     define_request_len, delete_request_from, delete_request_len, members_request_from,
     members_request_len, name_list_request_from, name_list_request_len, put_define_request,
     put_delete_request, put_members_request, put_name_list_request,
+};
+use ber_values::{
+    BerFault, MOST_LENGTH, Stop, has_tag, is_context, part_len, refused, skip_part, take_part,
+    write_head,
 };
 use std::alloc::{AllocError, Global};
 

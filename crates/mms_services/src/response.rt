@@ -11,17 +11,17 @@ ghost use Rattle.ber_values.specs.Stops.{Answers};
 ghost use Rattle.ber_values.specs.Readers.{taken_from};
 ghost use Rattle.mms_services.specs.Responses.{set_response, one_response};
 
-use crate::identify::{IDENTIFY_RESPONSE_LEN, identify_response_from, put_identify_response};
-use ber_values::{MOST_LENGTH, Stop, has_tag, part_len, take_part, write_head};
-use mms_access::{
+use crate::access::{
     ReadResponse, WriteResponse, put_read_response, put_write_response, read_response_from,
     read_response_len, write_response_from, write_response_len,
 };
-use mms_names::{
+use crate::identify::{IDENTIFY_RESPONSE_LEN, identify_response_from, put_identify_response};
+use crate::names::{
     DeleteResponse, MembersResponse, NameListResponse, delete_response_from, delete_response_len,
     members_response_from, members_response_len, name_list_response_from, name_list_response_len,
     put_delete_response, put_members_response, put_name_list_response,
 };
+use ber_values::{MOST_LENGTH, Stop, has_tag, part_len, take_part, write_head};
 use std::alloc::{AllocError, Global};
 
 /// What a service answers.

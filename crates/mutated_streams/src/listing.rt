@@ -1,8 +1,8 @@
 //! The listing of one stream, whole and cut at random.
 use rand::RngExt;
 use rand_core::Rng;
+use stack_assoc::listing::Lister;
 use std::alloc::{AllocError, Global};
-use stream_listing::Lister;
 
 /// A piece of a stream that is cut has at most so many octets.
 const MOST_OCTETS: usize = 256;

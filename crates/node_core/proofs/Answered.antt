@@ -40,7 +40,7 @@ use Rattle.tase_views.specs.Slots.{is_next_slot, slot_moves}
 use Rattle.tase_views.specs.Answers.{outcome_of_point, object_read, read_outcomes, slot_name}
 use Rattle.tase_views.specs.Answers.{temporarily_unavailable, device_state, select_outcome}
 use Rattle.tase_views.specs.Answers.{shown_tag}
-use Rattle.node_devices.proofs.OwnActs.{selects_alike, tags_alike}
+use Rattle.node_core.proofs.OfDevices.OwnActs.{selects_alike, tags_alike}
 use Rattle.node_core.specs.LastValues.{kinds_of}
 use Rattle.node_core.specs.declared.naming.Special.{Special}
 use Rattle.node_core.specs.declared.naming.Special.TheVariants as specials

@@ -25,9 +25,9 @@ use Rattle.tase_views.specs.Moves.{Act, reads, writes, deletes, writes_of, acts_
 use Rattle.tase_views.specs.Devices.{Deed, done_by, deed_of, write_deed, read_deed, number_in}
 use Rattle.tase_views.specs.Devices.{tag_in}
 use Rattle.tase_views.specs.Slots.{type_inconsistent, value_invalid}
-use Rattle.node_devices.specs.DeviceBanks.{row_control, number_of, devices_by, orders_given_by}
-use Rattle.node_devices.specs.DeviceBanks.{devices_behind}
-use Rattle.node_devices.specs.DeviceBanks.{orders_behind, HaveActed}
+use Rattle.node_core.specs.Devices.DeviceBanks.{row_control, number_of, devices_by, orders_given_by}
+use Rattle.node_core.specs.Devices.DeviceBanks.{devices_behind}
+use Rattle.node_core.specs.Devices.DeviceBanks.{orders_behind, HaveActed}
 use Rattle.node_core.specs.declared.writes.Asked.{Asked}
 use Rattle.node_core.specs.declared.writes.Asked.TheVariants.{Answered, Wished, Switched}
 use Rattle.node_core.specs.declared.writes.Asked.TheVariants.{Operated, Tagged}

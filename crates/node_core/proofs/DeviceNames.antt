@@ -18,9 +18,9 @@ use Rattle.std.specs.List.{All, find, ends_with, list_all}
 use Rattle.std.specs.Option.{option_map, option_or}
 use Rattle.ber_values.specs.Visible.{is_visible_octet}
 use Rattle.mms_data.specs.ObjectName.{IsIdentifier}
-use Rattle.table_words.specs.Words.{is_name}
-use Rattle.table_words.specs.declared.words.TheConstants.{NAME_LIMIT}
-use Rattle.table_words.proofs.VisibleWords.{IsVisible-from_name}
+use Rattle.bilateral.specs.Words.Words.{is_name}
+use Rattle.bilateral.specs.declared.words.words.TheConstants.{NAME_LIMIT}
+use Rattle.bilateral.proofs.OfWords.VisibleWords.{IsVisible-from_name}
 use Rattle.bilateral.specs.declared.rows.Control.{Control}
 use Rattle.bilateral.specs.declared.rows.DeviceRow.{DeviceRow}
 use Rattle.bilateral.specs.Rows.{CentreRows, IsCentre, IsControlling, device_of}

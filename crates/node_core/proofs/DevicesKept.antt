@@ -10,17 +10,17 @@ use Rattle.bilateral.specs.Rows.{CentreRows, IsCentre, device_of, no_device, var
 use Rattle.sbo_device.specs.Moves.{ControlPoint}
 use Rattle.sbo_device.specs.Banks.{DeviceRecord, BankState, device_at}
 use Rattle.sbo_device.proofs.OneHolder.{point_stays}
-use Rattle.table_words.specs.Devices.{is_range}
+use Rattle.bilateral.specs.Words.Devices.{is_range}
 use Rattle.tase_views.specs.Moves.{Move}
 use Rattle.tase_views.specs.OwnTables.{OwnDevice, OwnTables, own_device, own_table}
 use Rattle.tase_views.specs.OwnTables.{own_tables}
 use Rattle.tase_views.specs.Objects.{control_point, object_named}
 use Rattle.tase_views.specs.View.{View, steps_in}
 use Rattle.tase_views.proofs.OwnDevices.{Each, named_is}
-use Rattle.node_devices.specs.DeviceBanks.{IsDeviceBank, row_control, moves_of_each}
-use Rattle.node_devices.specs.DeviceBanks.{number_of}
-use Rattle.node_devices.specs.DevicesSeen.{IsDeviceSeen, AreDevicesSeen}
-use Rattle.node_devices.proofs.Numbers.{control_at, number_found, control_within}
+use Rattle.node_core.specs.Devices.DeviceBanks.{IsDeviceBank, row_control, moves_of_each}
+use Rattle.node_core.specs.Devices.DeviceBanks.{number_of}
+use Rattle.node_core.specs.Devices.DevicesSeen.{IsDeviceSeen, AreDevicesSeen}
+use Rattle.node_core.proofs.OfDevices.Numbers.{control_at, number_found, control_within}
 use Rattle.node_core.specs.DeviceWrites.{AreOfRows}
 use Rattle.node_core.proofs.Operands.{AreRanged}
 

@@ -6,7 +6,7 @@ use Rattle.std.specs.List.{list_all}
 use Rattle.std.proofs.lemmas.Option.{none-some}
 use Rattle.mms_data.specs.declared.object_name.Scope.TheVariants.{Domain}
 use Rattle.mms_data.specs.ObjectName.{ObjectName, same_scope}
-use Rattle.table_words.specs.Words.{is_identifier}
+use Rattle.bilateral.specs.Words.Words.{is_identifier}
 use Rattle.data_sets.specs.declared.book.TheConstants.{MOST_MEMBERS}
 use Rattle.data_sets.specs.Books.{Book, members_in}
 use Rattle.tase_views.specs.declared.reply.TheConstants.{ACCESS_ERRORS, ACCESS_DENIED}

@@ -51,3 +51,4 @@ pub mod Indexing
 pub mod TickDrafts
 pub mod PeerTotals
 pub mod Bounds
+pub mod OfDevices

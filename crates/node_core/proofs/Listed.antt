@@ -20,10 +20,10 @@ use Rattle.mms_data.specs.ObjectName.{IsIdentifier}
 use Rattle.data_sets.specs.declared.book.DataSet.{DataSet}
 use Rattle.data_sets.specs.Books.{Book}
 use Rattle.bilateral.specs.declared.rows.See.{See}
-use Rattle.table_words.specs.Words.{is_name, is_identifier}
+use Rattle.bilateral.specs.Words.Words.{is_name, is_identifier}
 use Rattle.bilateral.specs.declared.rows.TheConstants.{SLOT_LIMIT}
 use Rattle.bilateral.specs.Rows.{CentreRows, IsCentre, IsTable, IsControlling, no_point}
-use Rattle.table_words.proofs.VisibleWords.{IsVisible-from_name, IsVisible-from_identifier}
+use Rattle.bilateral.proofs.OfWords.VisibleWords.{IsVisible-from_name, IsVisible-from_identifier}
 use Rattle.tase_views.specs.declared.call.TheConstants.{NAMED_VARIABLES, NAMED_VARIABLE_LISTS}
 use Rattle.tase_views.specs.declared.call.TheConstants.{DOMAINS}
 use Rattle.tase_views.specs.declared.reply.ReplyKind.{ReplyKind}

@@ -7,8 +7,8 @@ use Rattle.std.proofs.lemmas.List.{map-append, length-map}
 use Rattle.std.proofs.lemmas.List.Elements.{filter_map-append}
 use Rattle.std.proofs.lemmas.Option.{slice_get-map}
 use Rattle.tase_views.specs.declared.event.Entry.{Entry}
-use Rattle.journal_text.specs.Journals.{entry_text}
-use Rattle.journal_text.specs.Entries.{entry_in, IsEntry}
+use Rattle.texts.specs.Journal.Journals.{entry_text}
+use Rattle.texts.specs.Journal.Entries.{entry_in, IsEntry}
 use Rattle.node_core.specs.LogLines.{entries_of, AreEntries}
 
 -- there are as many entries as lines

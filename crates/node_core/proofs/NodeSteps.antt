@@ -37,10 +37,10 @@ use Rattle.tase_views.specs.View.{View, own, chose, moves_in, view_of}
 use Rattle.tase_views.specs.Answers.{reply_to, define_replied}
 use Rattle.tase_views.specs.Reports.{reports_pending}
 use Rattle.tase_views.proofs.InForce.{held-seen}
-use Rattle.node_devices.specs.DeviceBanks.{IsDeviceBank, IsIdle, HaveActed}
-use Rattle.node_devices.proofs.BankActs.{acts_followed}
-use Rattle.node_devices.proofs.BankSteps.{idle_followed, closed_followed, ticked_followed}
-use Rattle.node_devices.proofs.BankSteps.{tagged_followed, taken_followed}
+use Rattle.node_core.specs.Devices.DeviceBanks.{IsDeviceBank, IsIdle, HaveActed}
+use Rattle.node_core.proofs.OfDevices.BankActs.{acts_followed}
+use Rattle.node_core.proofs.OfDevices.BankSteps.{idle_followed, closed_followed, ticked_followed}
+use Rattle.node_core.proofs.OfDevices.BankSteps.{tagged_followed, taken_followed}
 use Rattle.node_core.specs.declared.cause.ReportCause.{ReportCause}
 use Rattle.node_core.specs.declared.hub.Hub.{Hub}
 use Rattle.node_core.specs.declared.parts.Parts.{Parts}

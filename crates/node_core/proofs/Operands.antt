@@ -12,7 +12,7 @@ use Rattle.sbo_device.specs.declared.kind.CommandKind.TheVariants.{Command, Setp
 use Rattle.sbo_device.specs.Moves.{DeviceMove, operated}
 use Rattle.sbo_device.specs.States.{takes, inhibits, is_permitted, operate_answer, is_held_by}
 use Rattle.sbo_device.specs.Banks.{DeviceRecord, device_at, moved, moved_at, order_by}
-use Rattle.table_words.specs.Devices.{is_range, is_short}
+use Rattle.bilateral.specs.Words.Devices.{is_range, is_short}
 use Rattle.node_core.specs.SlotWrites.{operand}
 
 -- what a device takes is a range of 16 bits

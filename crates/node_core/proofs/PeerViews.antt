@@ -27,7 +27,7 @@ use Rattle.node_core.specs.PartFeeds.{IsReady, EachBecomes}
 use Rattle.node_core.proofs.Steps.{part_there}
 use Rattle.node_core.proofs.Known.{offered-at}
 use Rattle.node_core.proofs.Moments.{moment_is}
-use Rattle.node_devices.proofs.DevicesShown.{devices_seen}
+use Rattle.node_core.proofs.OfDevices.DevicesShown.{devices_seen}
 use Rattle.node_core.proofs.DevicesKept.{bank_many, bank_ranged}
 use Rattle.node_core.proofs.SlotWrites.{IsKeptSo, all_answers_alike}
 use Rattle.node_core.proofs.Views.{IsShown-of, IsShowable-of, IsThere-of}

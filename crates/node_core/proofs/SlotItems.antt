@@ -5,7 +5,7 @@ use Rattle.std.specs.Fmt.{digits}
 use Rattle.std.proofs.lemmas.Bool.{cases_eq, and_parts}
 use Rattle.bilateral.specs.declared.rows.TheConstants.{SLOT_LIMIT}
 use Rattle.mms_data.specs.ObjectName.{IsIdentifier}
-use Rattle.table_words.specs.Words.{is_identifier}
+use Rattle.bilateral.specs.Words.Words.{is_identifier}
 use Rattle.tase_views.specs.Objects.{slot_item}
 use Rattle.node_core.proofs.Listed.{IsIdentifier-word}
 

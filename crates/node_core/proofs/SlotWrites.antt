@@ -27,10 +27,10 @@ use Rattle.tase_views.specs.Slots.{owns, wish_written, sets_in, slot_moves, type
 use Rattle.tase_views.specs.Slots.{value_invalid}
 use Rattle.tase_views.specs.Answers.{reason_of, object_written, write_outcomes, operate_written}
 use Rattle.tase_views.specs.Answers.{device_state}
-use Rattle.node_devices.specs.DeviceBanks.{number_of, devices_by}
-use Rattle.node_devices.specs.DevicesSeen.{AreDevicesSeen}
-use Rattle.node_devices.proofs.SeenAlike.{operate_alike}
-use Rattle.node_devices.proofs.OwnActs.{written_alike}
+use Rattle.node_core.specs.Devices.DeviceBanks.{number_of, devices_by}
+use Rattle.node_core.specs.Devices.DevicesSeen.{AreDevicesSeen}
+use Rattle.node_core.proofs.OfDevices.SeenAlike.{operate_alike}
+use Rattle.node_core.proofs.OfDevices.OwnActs.{written_alike}
 use Rattle.node_core.specs.declared.writes.Asked.{Asked}
 use Rattle.node_core.specs.declared.writes.Asked.TheVariants.{Answered, Wished, Switched}
 use Rattle.node_core.specs.declared.writes.Asked.TheVariants.{Operated, Tagged}

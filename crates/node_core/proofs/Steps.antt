@@ -47,7 +47,7 @@ use Rattle.tase_views.specs.Outcomes.{is_known}
 use Rattle.tase_views.specs.View.{own, other_acted, other_closed, tagged, chose, stopped}
 use Rattle.tase_views.specs.View.{View, view_by, moves_in, view_of, moment_in}
 use Rattle.tase_views.proofs.Seated.{one_seat}
-use Rattle.node_devices.specs.DeviceBanks.{IsDeviceBank}
+use Rattle.node_core.specs.Devices.DeviceBanks.{IsDeviceBank}
 use Rattle.node_core.specs.declared.peer.Peer.{Peer}
 use Rattle.node_core.specs.declared.plant.Plant.{Plant}
 use Rattle.node_core.specs.LastValues.{kinds_of, updates_in}

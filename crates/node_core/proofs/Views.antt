@@ -21,8 +21,8 @@ use Rattle.tase_views.specs.View.{updated, tagged, chose, View, moves_in, view_o
 use Rattle.tase_views.specs.Values.{values_in}
 use Rattle.point_db.specs.Updates.{values_given}
 use Rattle.sbo_device.specs.declared.key.Key.{Key}
-use Rattle.node_devices.specs.DeviceBanks.{row_control}
-use Rattle.node_devices.proofs.DevicesShown.{devices_seen}
+use Rattle.node_core.specs.Devices.DeviceBanks.{row_control}
+use Rattle.node_core.proofs.OfDevices.DevicesShown.{devices_seen}
 use Rattle.node_core.specs.LastValues.{updates_in}
 use Rattle.node_core.specs.Found.{IsThere, table_at, offered}
 use Rattle.node_core.specs.declared.peer.Peer.{Peer}

@@ -11,7 +11,7 @@ use Rattle.tase_views.specs.Moves.{reads}
 use Rattle.tase_views.specs.OwnTables.{OwnTable}
 use Rattle.tase_views.specs.Devices.{deed_of}
 use Rattle.tase_views.specs.Answers.{operate_written}
-use Rattle.node_devices.specs.DeviceBanks.{row_control, devices_by}
+use Rattle.node_core.specs.Devices.DeviceBanks.{row_control, devices_by}
 use Rattle.node_core.specs.declared.writes.Asked.{Asked}
 use Rattle.node_core.specs.declared.writes.Asked.TheVariants.{Answered, Operated, Tagged}
 

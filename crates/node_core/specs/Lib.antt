@@ -17,3 +17,4 @@ pub mod Stored
 pub mod LogState
 pub mod LogLines
 pub mod Room
+pub mod Devices

@@ -2,7 +2,7 @@
 use Rattle.std.specs.Prelude.{◌≡◌, ℕ, List, map, Some}
 use Rattle.std.specs.List.{filter_map}
 use Rattle.tase_views.specs.declared.event.Entry.{Entry}
-use Rattle.journal_text.specs.Entries.{entry_in}
+use Rattle.texts.specs.Journal.Entries.{entry_in}
 
 -- the entries that lines are
 abbrev pub entries_of : List (List ℕ) → List Entry

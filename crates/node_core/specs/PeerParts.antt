@@ -6,7 +6,7 @@ use Rattle.std.specs.Prelude.{Bool, true, is_some, map}
 use Rattle.std.specs.List.{All, list_all}
 use Rattle.mms_data.specs.declared.object_name.Scope.TheVariants.{Domain}
 use Rattle.mms_data.specs.ObjectName.{ObjectName, IsIdentifier, same_scope}
-use Rattle.table_words.specs.Words.{is_identifier}
+use Rattle.bilateral.specs.Words.Words.{is_identifier}
 use Rattle.data_sets.specs.declared.book.TheConstants.{MOST_MEMBERS}
 use Rattle.data_sets.specs.Books.{Book, members_in, defined}
 use Rattle.bilateral.specs.declared.rows.TheConstants.{SLOT_LIMIT}

@@ -5,7 +5,7 @@ use Rattle.tase_views.specs.declared.event.EventKind.{EventKind}
 use Rattle.tase_views.specs.declared.event.EventKind.TheVariants.{Open, Close, Stop}
 use Rattle.tase_views.specs.History.{Past, stop_in}
 use Rattle.tase_views.specs.Weights.{weight, weight_of}
-use Rattle.journal_text.specs.Journals.{entry_text}
+use Rattle.texts.specs.Journal.Journals.{entry_text}
 use Rattle.node_core.specs.declared.log.TheConstants.{LONGEST_ENDING}
 use Rattle.node_core.specs.LogState.{LogState}
 

@@ -15,7 +15,7 @@ use Rattle.tase_views.specs.OwnTables.{OwnTables}
 use Rattle.tase_views.specs.View.{View, held}
 use Rattle.tase_views.specs.Values.{values_in}
 use Rattle.node_core.specs.LastValues.{kinds_of}
-use Rattle.node_devices.specs.DevicesSeen.{AreDevicesSeen}
+use Rattle.node_core.specs.Devices.DevicesSeen.{AreDevicesSeen}
 use Rattle.node_core.specs.declared.peer.Peer.{Peer}
 use Rattle.node_core.specs.declared.plant.Plant.{Plant}
 use Rattle.node_core.specs.Found.{TableInForce, offered, table_at}

@@ -23,7 +23,7 @@ use Rattle.tase_views.specs.Objects.{Object, control_point, device_tag, transfer
 use Rattle.tase_views.specs.Objects.{transfer_set_status, object_named}
 use Rattle.tase_views.specs.Slots.{taken, type_inconsistent, value_invalid}
 use Rattle.tase_views.specs.Answers.{reason_of}
-use Rattle.node_devices.specs.DeviceBanks.{number_of}
+use Rattle.node_core.specs.Devices.DeviceBanks.{number_of}
 use Rattle.node_core.specs.declared.writes.Asked.{Asked}
 use Rattle.node_core.specs.declared.writes.Asked.TheVariants.{Answered, Wished, Switched}
 use Rattle.node_core.specs.declared.writes.Asked.TheVariants.{Operated, Tagged}

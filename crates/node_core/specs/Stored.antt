@@ -17,7 +17,7 @@ use Rattle.tase_views.specs.OwnTables.{OwnTable, own_tables, table_in}
 use Rattle.tase_views.specs.Moves.{Act}
 use Rattle.tase_views.specs.View.{moves_in, view_of}
 use Rattle.tase_views.specs.Answers.{reply_to}
-use Rattle.node_devices.specs.DeviceBanks.{IsDeviceBank}
+use Rattle.node_core.specs.Devices.DeviceBanks.{IsDeviceBank}
 use Rattle.node_core.specs.declared.hub.Hub.{Hub}
 use Rattle.node_core.specs.declared.parts.Parts.{Parts}
 use Rattle.node_core.specs.declared.peer.Peer.{Peer}

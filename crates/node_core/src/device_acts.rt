@@ -5,7 +5,7 @@ ghost use Rattle.sbo_device.specs.declared.device.TheConstants.{MOMENT_LIMIT as 
 ghost use Rattle.tase_views.specs.Moves.{reads};
 ghost use Rattle.tase_views.specs.Devices.{deed_of};
 ghost use Rattle.tase_views.specs.Answers as answers;
-ghost use Rattle.node_devices.specs.DeviceBanks.{devices_by};
+ghost use Rattle.node_core.specs.Devices.DeviceBanks.{devices_by};
 ghost use Rattle.node_core.specs.Found.{offered};
 ghost use Rattle.node_core.specs.SlotWrites.{IsAskedThere};
 ghost use Rattle.node_core.specs.DeviceWrites.{AreOfRows, devices_read, left_of};

@@ -3,7 +3,7 @@ ghost use Rattle.std.specs.Prelude.{◌≡◌, ◌+◌, ◌^◌, ◌<◌, ◌==�
 ghost use Rattle.std.specs.Prelude.{Some, None, is_some, true, IfOk, OnOk, OnErr};
 ghost use Rattle.std.specs.HashMap.{hash_map_len};
 ghost use Rattle.point_db.specs.Stored.{Keeps};
-ghost use Rattle.node_devices.specs.DeviceBanks.{IsDeviceBank};
+ghost use Rattle.node_core.specs.Devices.DeviceBanks.{IsDeviceBank};
 ghost use Rattle.node_core.specs.LastValues.{kinds_of};
 ghost use Rattle.node_core.specs.Stored.{found_by};
 

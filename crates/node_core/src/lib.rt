@@ -4,6 +4,7 @@
 mod associations;
 mod cause;
 mod device_acts;
+pub mod devices;
 mod draft;
 mod hub;
 mod in_force;

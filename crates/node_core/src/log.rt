@@ -7,16 +7,16 @@ ghost use Rattle.tase_views.specs.Setup.{Setup};
 ghost use Rattle.tase_views.specs.History.{is_stop};
 ghost use Rattle.tase_views.specs.Weights.{weight_of};
 ghost use Rattle.tase_views.specs.Outcomes as causes;
-ghost use Rattle.journal_text.specs.Journals.{entry_text};
+ghost use Rattle.texts.specs.Journal.Journals.{entry_text};
 ghost use Rattle.node_core.specs.Room.{HasRoom, IsReserved, LeavesSeats, MayAppend};
 ghost use Rattle.node_core.specs.Room.{line_of, past_of};
 
 use itoa::Buffer;
-use journal_text::{entries_are_their_text, entries_have_texts, read_entry, spell_seat_event};
 use node_journal::Pages;
 use std::alloc::{AllocError, Global};
 use std::marker::Model;
 use tase_views::{Entry, Event, EventKind, StepFault, weight};
+use texts::journal::{entries_are_their_text, entries_have_texts, read_entry, spell_seat_event};
 
 /// The most octets of the line of a close or a stop: the number of a seat, a space and a word.
 pub const LONGEST_ENDING: usize = 26;

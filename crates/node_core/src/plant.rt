@@ -1,11 +1,11 @@
 //! The points and devices of a centre, as they stand.
 ghost use Rattle.std.specs.Prelude.{◌≡◌, [], IfOk};
 ghost use Rattle.point_db.specs.Stored.{Keeps};
-ghost use Rattle.node_devices.specs.DeviceBanks.{IsDeviceBank};
+ghost use Rattle.node_core.specs.Devices.DeviceBanks.{IsDeviceBank};
 ghost use Rattle.node_core.specs.LastValues.{kinds_of};
 
+use crate::devices::new_bank;
 use bilateral::Centre;
-use node_devices::new_bank;
 use point_db::PointDb;
 use sbo_device::DeviceBank;
 use std::alloc::{AllocError, Global};

@@ -6,7 +6,7 @@ ghost use Rattle.std.specs.List.{list_all};
 ghost use Rattle.std.specs.Option.{option_copied};
 ghost use Rattle.mms_data.specs.declared.object_name.Scope.TheVariants.{Domain as InDomain};
 ghost use Rattle.mms_data.specs.ObjectName.{same_scope};
-ghost use Rattle.table_words.specs.Words as identifiers;
+ghost use Rattle.bilateral.specs.Words.Words as identifiers;
 ghost use Rattle.data_sets.specs.Books.{members_in};
 ghost use Rattle.tase_views.specs.OwnTables.{OwnTables};
 ghost use Rattle.tase_views.specs.Objects as objects;
@@ -23,10 +23,10 @@ ghost use Rattle.node_core.specs.SlotsKept as banks;
 use crate::in_force::InForce;
 use crate::naming::is_member;
 use ber_values::Visible;
+use bilateral::words::is_identifier;
 use data_sets::{MOST_MEMBERS, Members, SetBook, books_are_lawful};
 use mms_data::{Name, Names, Scope};
 use std::alloc::AllocError;
-use table_words::is_identifier;
 use tase_views::{
     ACCESS_DENIED, ACCESS_ERRORS, DEFINITION_ERRORS, EXISTS, NON_EXISTENT, OTHER, RESOURCE_ERRORS,
     ReplyKind, UNDEFINED,

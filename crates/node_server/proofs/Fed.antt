@@ -6,8 +6,8 @@ use Rattle.tase_views.specs.declared.event.EventKind.{EventKind}
 use Rattle.bilateral.specs.Rows.{CentreRows}
 use Rattle.share_turn.specs.Public.{at}
 use Rattle.share_turn.proofs.Owned.{each_append}
-use Rattle.node_turn.specs.declared.turn_node.NodeSetup.{NodeSetup}
-use Rattle.node_turn.specs.Logged.{IsRightTurn}
+use Rattle.node_server.specs.declared.turn.turn_node.NodeSetup.{NodeSetup}
+use Rattle.node_server.specs.Turn.Logged.{IsRightTurn}
 use Rattle.node_server.specs.NodeCalls.{NodeCall, NodeLog, NodeSeat, CallsNode}
 use Rattle.node_server.specs.FeedReading.{Fed, FeedPlace, yet_fed}
 use Rattle.node_server.specs.Feeding.{FeedCame, asked_in, says_all, FedTo}

@@ -22,10 +22,10 @@ use Rattle.tase_views.specs.Moves.{sort_of}
 use Rattle.tase_views.specs.History.{association_in, last_tick}
 use Rattle.tase_views.specs.Outcomes.{is_named_there, has_slot, seat_refusal_by, clock_refusal_by}
 use Rattle.tase_views.specs.Outcomes.{first_refusal, name_refusal}
-use Rattle.event_text.specs.FeedLines.{feed_event_in, feed_words_in, update_in, update_of}
-use Rattle.event_text.specs.FeedLines.{sample_in, choice_in, choice_of, tagging_in}
-use Rattle.event_text.specs.FeedLines.{tag_words_in, ask_in, ask_of, stop_in}
-use Rattle.event_text.specs.declared.feed.TheConstants.{TABLE_NUMBER_LIMIT, SLOT_NUMBER_LIMIT}
+use Rattle.texts.specs.Events.FeedLines.{feed_event_in, feed_words_in, update_in, update_of}
+use Rattle.texts.specs.Events.FeedLines.{sample_in, choice_in, choice_of, tagging_in}
+use Rattle.texts.specs.Events.FeedLines.{tag_words_in, ask_in, ask_of, stop_in}
+use Rattle.texts.specs.declared.events.feed.TheConstants.{TABLE_NUMBER_LIMIT, SLOT_NUMBER_LIMIT}
 use Rattle.node_server.specs.FeedReading.{IsFedEvent}
 
 same_some : {X : Type 0} (a b : X) → Some a ≡ Some b → a ≡ b

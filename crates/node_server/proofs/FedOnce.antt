@@ -12,8 +12,8 @@ use Rattle.tase_views.specs.Outcomes.{refusal_of, first_refusal, IsRefusal, is_c
 use Rattle.tase_views.specs.Outcomes.{name_refusal, clock_refusal, stop_refusal, weight_refusal}
 use Rattle.bilateral.specs.Rows.{CentreRows}
 use Rattle.share_turn.specs.Public.{Came}
-use Rattle.node_turn.specs.declared.turn_node.NodeSetup.{NodeSetup}
-use Rattle.node_turn.specs.Logged.{IsRightTurn, past_in}
+use Rattle.node_server.specs.declared.turn.turn_node.NodeSetup.{NodeSetup}
+use Rattle.node_server.specs.Turn.Logged.{IsRightTurn, past_in}
 use Rattle.node_server.specs.NodeCalls.{NodeCall, NodeLog, NodeSeat}
 use Rattle.node_server.specs.FeedReading.{FeedPlace, yet_fed, says_then, TakesOctet, IsFedEvent}
 use Rattle.node_server.specs.FeedReading.{IsLineEnd, MayBeSaid}

@@ -13,7 +13,7 @@ use Rattle.outside.specs.Faults.{next_count}
 use Rattle.plain_text.specs.Lines.{is_skipped}
 use Rattle.bilateral.specs.Rows.{CentreRows}
 use Rattle.tase_views.specs.History.{is_stop}
-use Rattle.event_text.specs.FeedLines.{feed_event_in}
+use Rattle.texts.specs.Events.FeedLines.{feed_event_in}
 use Rattle.tase_views.specs.declared.event.EventKind.{EventKind}
 use Rattle.node_server.specs.HeldLines.{HasNoEnd, IsLongFirst}
 use Rattle.node_server.specs.FeedReading.{FeedPlace, feed_lines, ended_parts, fed_from, yet_fed}

@@ -15,8 +15,8 @@ use Rattle.tase_views.specs.declared.fault.StepFault.TheVariants as faults
 use Rattle.tase_views.specs.declared.reply.Answer.{Answer}
 use Rattle.share_turn.specs.Entries.{Each, own}
 use Rattle.share_turn.specs.Public.{at, added}
-use Rattle.node_turn.specs.declared.turn_node.NodeSetup.{NodeSetup}
-use Rattle.node_turn.specs.Logged.{IsRightTurn}
+use Rattle.node_server.specs.declared.turn.turn_node.NodeSetup.{NodeSetup}
+use Rattle.node_server.specs.Turn.Logged.{IsRightTurn}
 use Rattle.node_server.specs.SeatCalls.{taken_events}
 use Rattle.node_server.specs.NodeCalls.{NodeCall, NodeLog, NodeSeat, CallsNode, AsksStop}
 use Rattle.node_server.specs.NodeCalls.{StopsBehind}

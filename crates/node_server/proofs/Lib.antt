@@ -8,3 +8,7 @@ pub mod TickRuns
 pub mod Fed
 pub mod FedOnce
 pub mod FeedRuns
+pub mod OfTurn
+pub mod OfSeats
+pub mod OfLinks
+pub mod OfJobs

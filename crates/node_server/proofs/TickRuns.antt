@@ -4,7 +4,7 @@ use Rattle.std.proofs.Common.{reverse, refl, sym, ap, ◌∙◌, subst, append_a
 use Rattle.std.proofs.Common.{Result, Ok, Err}
 use Rattle.std.proofs.lemmas.List.{append-nil, reverse-append}
 use mathlib.Core.List.{IsPrefix}
-use Rattle.outside_links.specs.Clocks.{ClockTold}
+use Rattle.outside.specs.Links.Clocks.{ClockTold}
 use Rattle.tase_views.specs.declared.event.EventKind.{EventKind}
 use Rattle.tase_views.specs.declared.event.EventKind.TheVariants.{Tick}
 use Rattle.tase_views.specs.declared.fault.StepFault.{StepFault}
@@ -13,8 +13,8 @@ use Rattle.tase_views.specs.declared.reply.Answer.{Answer}
 use Rattle.tase_views.specs.History.{Past, last_tick}
 use Rattle.share_turn.specs.Entries.{own}
 use Rattle.share_turn.specs.Public.{at, added}
-use Rattle.node_turn.specs.declared.turn_node.NodeSetup.{NodeSetup}
-use Rattle.node_turn.specs.Logged.{IsRightTurn, logged_entry, past_in}
+use Rattle.node_server.specs.declared.turn.turn_node.NodeSetup.{NodeSetup}
+use Rattle.node_server.specs.Turn.Logged.{IsRightTurn, logged_entry, past_in}
 use Rattle.node_server.specs.SeatCalls.{taken_events}
 use Rattle.node_server.specs.NodeCalls.{NodeCall, NodeLog, NodeSeat, CallsNode, HasTickFrom}
 use Rattle.node_server.specs.NodeCalls.{AsksStop, StopsBehind, HadTheirTicks}

@@ -3,8 +3,8 @@ use Rattle.std.proofs.Common.{◌≡◌, ℕ, ◌<◌, arith, Bool, false, List,
 use Rattle.std.proofs.Common.{sym, ap, ◌∙◌, subst, append_assoc, Option, Some, None, Result, Ok}
 use Rattle.std.proofs.Common.{Err}
 use Rattle.std.proofs.lemmas.List.{append-nil, map-append}
-use Rattle.outside_links.specs.Clocks.{ClockTold, ReadsClock}
-use Rattle.outside_links.specs.declared.clock.TheConstants.{READING_LIMIT}
+use Rattle.outside.specs.Links.Clocks.{ClockTold, ReadsClock}
+use Rattle.outside.specs.declared.links.clock.TheConstants.{READING_LIMIT}
 use Rattle.tase_views.specs.declared.event.EventKind.{EventKind}
 use Rattle.tase_views.specs.declared.event.EventKind.TheVariants.{Tick, Stop}
 use Rattle.outside.proofs.Writing.{Adds-none, Adds-append}
@@ -14,8 +14,8 @@ use Rattle.tase_views.specs.declared.reply.Answer.{Answer}
 use Rattle.tase_views.specs.History.{Past}
 use Rattle.share_turn.specs.Public.{at, Came}
 use Rattle.share_turn.proofs.Owned.{each_append}
-use Rattle.node_turn.specs.declared.turn_node.NodeSetup.{NodeSetup}
-use Rattle.node_turn.specs.Logged.{IsRightTurn, past_in}
+use Rattle.node_server.specs.declared.turn.turn_node.NodeSetup.{NodeSetup}
+use Rattle.node_server.specs.Turn.Logged.{IsRightTurn, past_in}
 use Rattle.node_server.specs.NodeCalls.{NodeCall, NodeLog, NodeSeat, CallsNode, AsksNode}
 use Rattle.node_server.specs.NodeCalls.{AsksStop}
 use Rattle.outside.specs.Faults.{counted}

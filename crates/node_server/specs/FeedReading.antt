@@ -9,7 +9,7 @@ use Rattle.bilateral.specs.Rows.{CentreRows}
 use Rattle.tase_views.specs.declared.event.EventKind.{EventKind}
 use Rattle.tase_views.specs.History.{Past, is_stop}
 use Rattle.tase_views.specs.Outcomes.{own_refusal, clock_refusal}
-use Rattle.event_text.specs.FeedLines.{feed_event_in}
+use Rattle.texts.specs.Events.FeedLines.{feed_event_in}
 use Rattle.node_server.specs.declared.feed_end.FeedEnd.{FeedEnd}
 use Rattle.node_server.specs.declared.feed_end.FeedEnd.TheVariants.{Ended, StopLine, BadLine}
 use Rattle.node_server.specs.declared.feed_end.FeedEnd.TheVariants.{LongLine, SourceFault, Stopped}

@@ -12,8 +12,8 @@ use Rattle.tase_views.specs.declared.fault.StepFault.TheVariants.{UnknownName, C
 use Rattle.tase_views.specs.declared.reply.Answer.{Answer}
 use Rattle.share_turn.specs.Entries.{own}
 use Rattle.share_turn.specs.Public.{Sitting, Came}
-use Rattle.node_turn.specs.declared.turn_node.NodeSetup.{NodeSetup}
-use Rattle.node_turn.specs.Logged.{IsRightTurn}
+use Rattle.node_server.specs.declared.turn.turn_node.NodeSetup.{NodeSetup}
+use Rattle.node_server.specs.Turn.Logged.{IsRightTurn}
 use Rattle.node_server.specs.SeatCalls.{SeatCall, taken_events, MakesCalls}
 
 abbrev pub NodeCall : Type 0

@@ -3,14 +3,14 @@ use Rattle.std.specs.Prelude.{◌≡◌, ℕ, Bool, true, false, List, [], ◌�
 use Rattle.std.specs.Prelude.{Option, Some, None}
 use Rattle.outside.specs.Faults.{counted}
 use Rattle.outside.specs.Octets.{Adds}
-use Rattle.outside_links.specs.Clocks.{ClockTold}
+use Rattle.outside.specs.Links.Clocks.{ClockTold}
 use Rattle.tase_views.specs.declared.event.EventKind.TheVariants.{Tick}
 use Rattle.tase_views.specs.declared.fault.StepFault.{StepFault}
 use Rattle.tase_views.specs.declared.fault.StepFault.TheVariants as faults
 use Rattle.tase_views.specs.declared.reply.Answer.{Answer}
 use Rattle.share_turn.specs.Entries.{Each, own}
 use Rattle.share_turn.specs.Public.{at}
-use Rattle.node_turn.specs.declared.turn_node.NodeSetup.{NodeSetup}
+use Rattle.node_server.specs.declared.turn.turn_node.NodeSetup.{NodeSetup}
 use Rattle.node_server.specs.SeatCalls.{taken_events}
 use Rattle.node_server.specs.NodeCalls.{NodeCall, NodeLog, NodeSeat, CallsNode, StopsBehind}
 use Rattle.node_server.specs.NodeCalls.{HadTheirTicks}

@@ -3,7 +3,7 @@ ghost use Rattle.std.specs.Prelude.{◌≡◌, List};
 ghost use Rattle.share_turn.specs.Public.{IsOf, at};
 ghost use Rattle.node_server.specs.NodeCalls.{NodeCall, CallsNode, AsksNode, AsksStop};
 
-use node_turn::TurnNode;
+use crate::turn::TurnNode;
 use share_turn::{Seat, Shared};
 use std::alloc::Global;
 use std::sync::Wait;

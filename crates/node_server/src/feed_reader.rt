@@ -11,12 +11,12 @@ ghost use Rattle.node_server.specs.declared.feed_reader.FeedSays.TheVariants.{As
 
 use crate::feed_end::FeedEnd;
 use bilateral::Centre;
-use event_text::read_feed_line;
 use outside::count_fault;
 use plain_text::is_skipped;
 use std::alloc::{AllocError, Global};
 use std::marker::Model;
 use tase_views::{Event, EventKind};
+use texts::events::read_feed_line;
 
 /// The most octets of a line of a feed, without its end.
 pub const LINE_LIMIT: usize = 4096;

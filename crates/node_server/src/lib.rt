@@ -5,8 +5,13 @@ mod asking;
 mod feed_end;
 mod feed_reader;
 mod feeding;
+pub mod jobs;
+pub mod links;
+pub mod seats;
 mod ticking;
+pub mod turn;
 
+pub use conn_service::{connection, node};
 pub use feed_end::FeedEnd;
 pub use feed_reader::{FeedReader, FeedSays, LINE_LIMIT};
 pub use feeding::feed_node;

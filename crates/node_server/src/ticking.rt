@@ -6,8 +6,8 @@ ghost use Rattle.node_server.specs.Ticking.{IsTickFault, TickCame, Ticks, RunsTi
 ghost use Rattle.node_server.specs.declared.ticking.TickEnd.{TickEnd};
 
 use crate::asking::{call_node, stop_node};
-use node_turn::TurnNode;
-use outside_links::Clock;
+use crate::turn::TurnNode;
+use outside::links::Clock;
 use share_turn::{Seat, Shared};
 use std::alloc::Global;
 use std::sync::Wait;

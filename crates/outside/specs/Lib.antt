@@ -6,3 +6,5 @@ pub mod Sink
 pub mod Source
 pub mod States
 pub mod Text
+pub mod Links
+pub mod Names

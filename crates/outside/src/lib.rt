@@ -5,6 +5,8 @@
 mod buffered;
 mod byte_sink;
 mod faults;
+pub mod links;
+pub mod names;
 mod object_name;
 mod sink;
 mod source;

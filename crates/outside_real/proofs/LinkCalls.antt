@@ -2,7 +2,7 @@
 use Rattle.std.proofs.Common.{Bool, false, ◌≡◌, ℕ, List, refl}
 use Rattle.std.specs.Prelude.{Option, Result}
 use Rattle.std.specs.declared.io.Error.{Error}
-use Rattle.outside_links.specs.declared.link.Recv.{Recv}
+use Rattle.outside.specs.declared.links.link.Recv.{Recv}
 use Rattle.outside_real.specs.LinkAttempts.{Received}
 use Rattle.outside_real.specs.RealLinks.{RealLinkState, ReceivesAs, is_spent, after_recv}
 use Rattle.outside_real.proofs.Trying.{not_true}

@@ -1,21 +1,44 @@
 -- Attempts at accepting connections.
-use Rattle.std.specs.Prelude.{Bool, ◌≡◌, ◌⊎◌, Result, Ok, Err}
-use Rattle.std.specs.IoError.{error_kind}
+use Rattle.std.specs.Prelude.{Bool, ◌≡◌, ◌⊎◌, ℤ, pos, Some, Result, Ok, Err}
+use Rattle.std.specs.IoError.{error_kind, raw_os_error}
 use Rattle.std.specs.declared.io.Error.{Error}
 use Rattle.std.specs.declared.io.ErrorKind.TheVariants.{Interrupted, WouldBlock, ConnectionAborted}
-use Rattle.outside_links.specs.declared.listener.Accept.{Accept}
-use Rattle.outside_links.specs.declared.listener.Accept.TheVariants as accept
+use Rattle.std.specs.declared.io.ErrorKind.TheVariants.{OutOfMemory}
+use Rattle.outside.specs.declared.links.listener.Accept.{Accept}
+use Rattle.outside.specs.declared.links.listener.Accept.TheVariants as accept
 use Rattle.outside_real.specs.declared.gate.Arrival.{Arrival}
 use Rattle.outside_real.specs.declared.gate.Arrival.TheVariants.{Came, NotYet, Failed}
 use Rattle.outside_real.specs.LinkAttempts.{TriedTwice}
 use Rattle.outside_real.specs.RealLinks.{RealLinkState, new_real_link}
 
--- no node has connected: it would have had to wait, a signal interrupted it, or the node that had
--- connected has gone
+-- the system gave this number
+abbrev pub HasNumber : Error → ℤ → Type 0
+HasNumber error number = raw_os_error error ≡ Some number
+
+-- no memory is left (`ENOMEM`), or no descriptor or buffer: `EMFILE`, `ENFILE`, `ENOBUFS`
+abbrev pub IsWant : Error → Type 0
+IsWant error =
+    (error_kind error ≡ OutOfMemory) ⊎ (HasNumber error (pos 24)
+    ⊎ (HasNumber error (pos 23) ⊎ HasNumber error (pos 105)))
+
+-- the network of the one connection that was to be accepted failed: `ENETDOWN`, `EPROTO`,
+-- `ENOPROTOOPT`, `EHOSTDOWN`, `ENONET`, `EHOSTUNREACH`, `EOPNOTSUPP`, `ENETUNREACH`
+abbrev pub IsOfOne : Error → Type 0
+IsOfOne error =
+    HasNumber error (pos 100) ⊎ (HasNumber error (pos 71) ⊎ (HasNumber error (pos 92)
+    ⊎ (HasNumber error (pos 112) ⊎ (HasNumber error (pos 64) ⊎ (HasNumber error (pos 113)
+    ⊎ (HasNumber error (pos 95) ⊎ HasNumber error (pos 101)))))))
+
+-- a connection can't be had for now, though the listener is whole
+abbrev pub IsHindrance : Error → Type 0
+IsHindrance error = IsWant error ⊎ IsOfOne error
+
+-- there is no connection now: it would have had to wait, a signal interrupted it, the node that had
+-- connected has gone, or there is a hindrance
 abbrev pub IsNoArrival : Error → Type 0
 IsNoArrival error =
     (error_kind error ≡ WouldBlock) ⊎ ((error_kind error ≡ Interrupted)
-    ⊎ (error_kind error ≡ ConnectionAborted))
+    ⊎ ((error_kind error ≡ ConnectionAborted) ⊎ IsHindrance error))
 
 -- what one attempt came to
 abbrev pub ArriveAs : {T S : Type 0} → (T → Result S Error → T → Type 0) → T → Arrival S → T

@@ -1,6 +1,6 @@
 -- Attempts at reading the time.
 use Rattle.std.specs.Prelude.{◌⊎◌, ℕ, ◌≤◌, Option, Some, None}
-use Rattle.outside_links.specs.declared.clock.TheConstants.{READING_LIMIT}
+use Rattle.outside.specs.declared.links.clock.TheConstants.{READING_LIMIT}
 
 -- a reading is what one attempt came to; none is an attempt that failed, or that came to a time out
 -- of range

@@ -4,4 +4,6 @@ pub mod ClockAttempts
 pub mod LinkAttempts
 pub mod Links
 pub mod RealLinks
+pub mod SteadyClocks
 pub mod Streams
+pub mod Turns

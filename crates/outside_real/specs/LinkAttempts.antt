@@ -6,8 +6,8 @@ use Rattle.std.specs.declared.io.Error.{Error}
 use Rattle.std.specs.declared.io.ErrorKind.TheVariants.{Interrupted, WouldBlock}
 use Rattle.outside.specs.declared.sink.WriteEnd.{WriteEnd}
 use Rattle.outside.specs.declared.sink.WriteEnd.TheVariants.{Took, Failed as SendFailed}
-use Rattle.outside_links.specs.declared.link.Recv.{Recv}
-use Rattle.outside_links.specs.declared.link.Recv.TheVariants.{Got, Idle, End, Failed as RecvFailed}
+use Rattle.outside.specs.declared.links.link.Recv.{Recv}
+use Rattle.outside.specs.declared.links.link.Recv.TheVariants.{Got, Idle, End, Failed as RecvFailed}
 use Rattle.outside_real.specs.declared.TheConstants.{TRIES}
 use Rattle.outside_real.specs.declared.socket.TheConstants.{SILENCE_LIMIT}
 use Rattle.outside_real.specs.declared.socket.Attempt.{Attempt}

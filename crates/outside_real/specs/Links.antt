@@ -1,8 +1,8 @@
 -- What real links, listeners and clocks tell: their faults, and of a link whether it was closed.
 use Rattle.std.specs.Prelude.{Bool, ℕ, [], None}
-use Rattle.outside_links.specs.Links.{LinkTold}
-use Rattle.outside_links.specs.Listeners.{ListenerTold}
-use Rattle.outside_links.specs.Clocks.{ClockTold}
+use Rattle.outside.specs.Links.Links.{LinkTold}
+use Rattle.outside.specs.Links.Listeners.{ListenerTold}
+use Rattle.outside.specs.Links.Clocks.{ClockTold}
 
 abbrev pub link_told : Bool → ℕ → LinkTold
 link_told is_closed faults = record {

@@ -4,8 +4,8 @@ use Rattle.std.specs.declared.io.Error.{Error}
 use Rattle.outside.specs.Faults.{counted}
 use Rattle.outside.specs.Sink.{is_failed_write}
 use Rattle.outside.specs.declared.sink.WriteEnd.{WriteEnd}
-use Rattle.outside_links.specs.declared.link.Recv.{Recv}
-use Rattle.outside_links.specs.declared.link.Recv.TheVariants.{Got, Idle, End, Failed}
+use Rattle.outside.specs.declared.links.link.Recv.{Recv}
+use Rattle.outside.specs.declared.links.link.Recv.TheVariants.{Got, Idle, End, Failed}
 use Rattle.outside_real.specs.LinkAttempts.{Received, Sent}
 
 -- a link

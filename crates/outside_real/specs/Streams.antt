@@ -7,7 +7,7 @@ use Rattle.std.specs.Io.KnownBytes.{ReadConsumes, WriteAppends}
 use Rattle.std.specs.declared.io.Error.{Error}
 use Rattle.outside.specs.Source.{SourceTold}
 use Rattle.outside.specs.Sink.{SinkTold}
-use Rattle.outside_names.specs.Outside.{OutsideTold, untold}
+use Rattle.outside.specs.Names.Outside.{OutsideTold, untold}
 use Rattle.outside_real.specs.declared.stream.Stream.{Stream}
 use Rattle.outside_real.specs.declared.stream.Stream.TheVariants.{Standard, File}
 

@@ -1,11 +1,11 @@
 //! Anything that tells the time, as a clock.
 ghost use Rattle.std.specs.Prelude.{◌≡◌, ℕ, Option};
-ghost use Rattle.outside_links.specs.Clocks.{ClockTold, ReadsClock};
+ghost use Rattle.outside.specs.Links.Clocks.{ClockTold, ReadsClock};
 ghost use Rattle.outside_real.specs.ClockAttempts.{ClockAttempted};
 ghost use Rattle.outside_real.specs.Links.{clock_told};
 
 use outside::count_fault;
-use outside_links::{Clock, READING_LIMIT};
+use outside::links::{Clock, READING_LIMIT};
 use std::marker::Model;
 
 /// One attempt at reading the time.

@@ -1,14 +1,14 @@
 //! A connection as a link.
 ghost use Rattle.std.specs.Prelude.{true, false, ◌≡◌, ◌<◌, length};
-ghost use Rattle.outside_links.specs.Links.{LinkTold, ReceivesPiece, SendsPiece, closed_link};
+ghost use Rattle.outside.specs.Links.Links.{LinkTold, ReceivesPiece, SendsPiece, closed_link};
 ghost use Rattle.outside_real.specs.LinkAttempts.{Sent};
 ghost use Rattle.outside_real.specs.Links.{link_told};
 ghost use Rattle.outside_real.specs.RealLinks.{RealLinkState, ReceivesAs, SendsAs, ClosesAs};
 ghost use Rattle.outside_real.specs.RealLinks.{new_real_link};
 
 use crate::socket::{SocketAttempt, receive, send};
+use outside::links::{Link, Recv};
 use outside::{WriteEnd, count_fault};
-use outside_links::{Link, Recv};
 use std::marker::Model;
 
 /// A link that tells its faults alone. After an end or a fault of recv, each recv answers the end

@@ -1,15 +1,15 @@
 //! What accepts connections as a listener.
 ghost use Rattle.std.specs.Prelude.{◌≡◌, ℕ};
-ghost use Rattle.outside_links.specs.Listeners.{ListenerTold, AcceptsLink, MayRetire};
-ghost use Rattle.outside_links.specs.Listeners.{RetiredIsWithin, link_given, is_failed_accept};
-ghost use Rattle.outside_links.specs.Listeners.{with_retired};
+ghost use Rattle.outside.specs.Links.Listeners.{ListenerTold, AcceptsLink, MayRetire};
+ghost use Rattle.outside.specs.Links.Listeners.{RetiredIsWithin, link_given, is_failed_accept};
+ghost use Rattle.outside.specs.Links.Listeners.{with_retired};
 ghost use Rattle.outside_real.specs.AcceptAttempts.{Accepted};
 ghost use Rattle.outside_real.specs.Links.{listener_told, link_told};
 
 use crate::gate::{AcceptAttempt, Arrival, accept_twice};
 use crate::link::RealLink;
 use outside::count_fault;
-use outside_links::{Accept, Listener};
+use outside::links::{Accept, Listener};
 use std::marker::Model;
 
 /// A listener that tells its faults alone. It has no end. A link that is retired is dropped, which

@@ -1,24 +1,26 @@
 //! Files, standard input and standard output by name, connections by address, and the clock.
 ghost use Rattle.std.specs.Prelude.{◌≡◌, ℕ, List, Option, option_map, IfSome, IsSome, IsTrue};
-ghost use Rattle.outside_names.specs.Outside.{OutsideTold, OpensIn, OpensOut, Listens, Connects};
+ghost use Rattle.outside.specs.Names.Outside.{OutsideTold, OpensIn, OpensOut, Listens, Connects};
 ghost use Rattle.outside_real.specs.Links.{listener_told, link_told};
 ghost use Rattle.outside_real.specs.Streams.{source_told, sink_told, outside_told};
 ghost use Rattle.outside_real.specs.Streams.{is_standard_stream, is_standard_name};
 
 use crate::boxed_reader::BoxedReader;
 use crate::clock::RealClock;
+use crate::limits::tell_few_descriptors;
 use crate::link::RealLink;
 use crate::listener::RealListener;
 use crate::named::{NamedStream, StreamName};
 use crate::notices::{Notices, short};
 use crate::sink::WriteSink;
 use crate::source::ReadSource;
+use crate::steady_clock::SteadyClock;
 use crate::stream::Stream;
-use crate::system_clock::SystemClock;
+use crate::system_clock::SystemClocks;
 use crate::tcp::{TcpGate, TcpSocket};
+use outside::links::{Clock, Link, Listener};
+use outside::names::Outside;
 use outside::{Sink, Source, count_fault};
-use outside_links::{Clock, Link, Listener};
-use outside_names::Outside;
 use std::alloc::Global;
 use std::io::{Eprint, Printer};
 use std::marker::Model;
@@ -64,7 +66,7 @@ impl<'a, R: Files + Input + Print + Eprint + Net + time::Clock + Copy> Outside
 
     type Listener = RealListener<TcpGate<R>>;
 
-    type Clock = RealClock<SystemClock<R>>;
+    type Clock = RealClock<SteadyClock<SystemClocks<R>>>;
 
     ghost told = { outside_told };
 
@@ -107,11 +109,14 @@ impl<'a, R: Files + Input + Print + Eprint + Net + time::Clock + Copy> Outside
         ensures listens { Listens (outside_told self.old) (outside_told self.new) address.now
             (option_map (λ listener. listener_told listener.1) result) }
     {
-        let outcome = TcpGate::listen(*self.runtime, self.alloc, address);
+        let outcome = TcpGate::listen(*self.runtime, address);
         let notices = Notices::new(*self.runtime);
         let shown = short(address);
         match &outcome {
-            Ok(_) => notices.tell(format_args!("listening at {shown}")),
+            Ok(_) => {
+                tell_few_descriptors(&notices);
+                notices.tell(format_args!("listening at {shown}"));
+            }
             Err(error) => notices.tell(format_args!("can't listen at {shown}: {error}")),
         }
         let listener = outcome.ok();
@@ -132,7 +137,7 @@ impl<'a, R: Files + Input + Print + Eprint + Net + time::Clock + Copy> Outside
         ensures connects { Connects (outside_told self.old) (outside_told self.new) address.now
             (option_map (λ link. link_told link.is_closed link.faults) result) }
     {
-        let outcome = TcpSocket::connect(*self.runtime, self.alloc, address);
+        let outcome = TcpSocket::connect(*self.runtime, address);
         if let Err(error) = &outcome {
             let shown = short(address);
             Notices::new(*self.runtime).tell(format_args!("can't connect to {shown}: {error}"));
@@ -146,11 +151,12 @@ impl<'a, R: Files + Input + Print + Eprint + Net + time::Clock + Copy> Outside
         self.faults = count_fault(self.faults, link.faults() > 0);
     }
 
-    fn clock(&mut self) -> Option<RealClock<SystemClock<R>>> {
-        Some(RealClock::new(SystemClock::new(*self.runtime)))
+    fn clock(&mut self) -> Option<RealClock<SteadyClock<SystemClocks<R>>>> {
+        let clocks = SystemClocks::new(*self.runtime);
+        Some(RealClock::new(SteadyClock::new(clocks)))
     }
 
-    fn close_clock(&mut self, clock: RealClock<SystemClock<R>>) {
+    fn close_clock(&mut self, clock: RealClock<SteadyClock<SystemClocks<R>>>) {
         self.faults = count_fault(self.faults, clock.faults() > 0);
     }
 

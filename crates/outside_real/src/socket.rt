@@ -3,14 +3,14 @@ ghost use Rattle.std.specs.Prelude.{◌≡◌, Bool, ℕ, ◌<◌, ◌≤◌, Li
 ghost use Rattle.std.specs.Prelude.{IfOk, length, ◌↔◌, IsTrue};
 ghost use Rattle.std.specs.IoError.{error_kind};
 ghost use Rattle.std.specs.declared.io.Error.{Error};
-ghost use Rattle.outside_links.specs.Links.{IsRecvCount, IsSendCount};
+ghost use Rattle.outside.specs.Links.Links.{IsRecvCount, IsSendCount};
 ghost use Rattle.outside_real.specs.LinkAttempts.{FailsAs, CameTo, IsCount, ReadTwice, Received};
 ghost use Rattle.outside_real.specs.LinkAttempts.{Sent};
 
 use crate::TRIES;
 use crate::stream::is_interrupted;
 use outside::WriteEnd;
-use outside_links::Recv;
+use outside::links::Recv;
 use std::io;
 use std::io::ErrorKind;
 

@@ -3,91 +3,76 @@ ghost use Rattle.std.specs.Prelude.{⊤, ◌≡◌, IfOk};
 ghost use Rattle.std.specs.Io.{ReadsAtMost, WritesAtMost};
 ghost use Rattle.outside_real.specs.RealLinks.{RealLinkState, new_real_link};
 
-use crate::gate::{AcceptAttempt, is_no_arrival};
+use crate::gate::{AcceptAttempt, is_hindrance, is_no_arrival};
 use crate::link::RealLink;
 use crate::listener::RealListener;
 use crate::notices::Notices;
+use crate::options::set_options;
 use crate::socket::{SocketAttempt, would_wait};
 use crate::stream::is_interrupted;
-use libc::net::{SO_KEEPALIVE, SOL_SOCKET, setsockopt};
-use mio::event::Source;
+use crate::system_clock::millis_between;
+use crate::turns::{Turn, notice_due};
+use libc::net::{POLLIN, POLLOUT, poll};
+use libc::types::pollfd;
 use mio::net::{TcpListener, TcpStream};
-use mio::{Events, Interest, Poll, Token};
-use std::alloc::Global;
-use std::io;
-use std::io::{Eprint, Read, Write};
+use std::io::{Eprint, ErrorKind, Read, Write};
 use std::net::{Net, Shutdown, SocketAddr};
 use std::os::fd::AsRawFd;
 use std::time::{Clock, Duration, Instant};
+use std::{io, thread};
 
 /// How long a call waits at most for the other node, in milliseconds.
-const WAIT: u64 = 200;
+const WAIT: i32 = 200;
+
+/// How long it waits while no connection can be had, in milliseconds.
+const HINDERED_WAIT: u64 = 200;
 
 /// How long a connection may take to come about, in milliseconds.
-const CONNECT_WAIT: u64 = 5000;
+const CONNECT_WAIT: i32 = 5000;
+
+const _: () = prove!(WAIT == 200);
+
+const _: () = prove!(HINDERED_WAIT == 200);
+
+const _: () = prove!(CONNECT_WAIT == 5000);
 
 /// How many octets at most are read away of a connection that is closed: pieces, and a piece.
 const MOST_PIECES: u32 = 512;
 
 const PIECE: usize = 16_384;
 
-// Waits until one source is ready.
-#[derive(Drop)]
-struct Waiter {
-    poll: Poll,
-    events: Events,
+// Waits until a descriptor may be ready for these events, or so many milliseconds are up. It
+// answers false where it couldn't wait.
+fn wait_for<S: AsRawFd>(source: &S, events: i16, limit: i32) -> bool {
+    let mut asked = [pollfd {
+        fd: source.as_raw_fd(),
+        events,
+        revents: 0,
+    }];
+    poll(&mut asked, limit) >= 0
 }
 
-impl Waiter {
-    // Watches this source. An error: the system refuses it, or no memory is left.
-    fn new<R: Net, S: Source>(
-        runtime: &R,
-        alloc: Global,
-        source: &mut S,
-        interest: Interest,
-    ) -> io::Result<Waiter> {
-        let poll = Poll::new(runtime)?;
-        let events = Events::with_capacity(alloc, 1)?;
-        poll.registry().register(source, Token(0), interest)?;
-        Ok(Waiter { poll, events })
-    }
-
-    // Waits until the source may be ready, or so many milliseconds are up.
-    fn wait(&mut self, limit: u64) -> bool {
-        let limit = Duration::from_millis(limit);
-        self.poll.poll(&mut self.events, Some(limit)).is_ok()
-    }
-}
-
-/// A connection whose descriptor is open.
-#[derive(Drop)]
-struct OpenStream {
-    stream: TcpStream,
-    waiter: Waiter,
-}
-
-impl OpenStream {
-    // Ends both directions and gives the descriptor back. What was written before still goes out:
-    // octets that stand unread are read away before, since a connection that is closed with some is
-    // reset, by which the other node may lose what was last sent.
-    fn close(mut self) {
-        // A connection that the other node has ended can't be shut down.
-        let _result = self.stream.shutdown(Shutdown::Write);
-        let mut unread = [0u8; PIECE];
-        for _piece in 0..MOST_PIECES {
-            match self.stream.read(&mut unread) {
-                Ok(count) if count > 0 => {}
-                _ => return,
-            }
+// Ends both directions and gives the descriptor back. What was written before still goes out:
+// octets that stand unread are read away before, since a connection that is closed with some is
+// reset, by which the other node may lose what was last sent.
+fn close(mut stream: TcpStream) {
+    // A connection that the other node has ended can't be shut down.
+    let _result = stream.shutdown(Shutdown::Write);
+    let mut unread = [0u8; PIECE];
+    for _piece in 0..MOST_PIECES {
+        match stream.read(&mut unread) {
+            Ok(count) if count > 0 => {}
+            _ => return,
         }
     }
 }
 
-/// A connection. It waits 200 milliseconds at most. Once it is shut its descriptor is given back: a
-/// read is then at the end, and a write fails.
+/// A connection, of one descriptor. It waits 200 milliseconds at most. Once it is shut its
+/// descriptor is given back: a read is then at the end, and a write fails.
 #[derive(Drop)]
 pub struct TcpSocket<R> {
-    open: Option<OpenStream>,
+    /// None once it was shut.
+    stream: Option<TcpStream>,
     runtime: R,
     /// The other node's.
     address: SocketAddr,
@@ -99,31 +84,29 @@ pub struct TcpSocket<R> {
 
 impl<R: Net + Clock + Eprint + Copy> TcpSocket<R> {
     /// A link to the node at an address such as `127.0.0.1:102` or `[::1]:102`, which may be silent
-    /// for as long as it likes. An error: the text is no such address, no node has taken the
-    /// connection within five seconds, or no memory or descriptor is left.
-    pub fn connect(runtime: R, alloc: Global, address: &str) -> io::Result<RealLink<TcpSocket<R>>>
+    /// for as long as it likes, while its system answers. An error: the text is no such address, no
+    /// node has taken the connection within five seconds, the connection's options can't be set, or
+    /// no memory or descriptor is left.
+    pub fn connect(runtime: R, address: &str) -> io::Result<RealLink<TcpSocket<R>>>
         ensures { IfOk result (λ link. link ≡ new_real_link link.socket) }
     {
         let address = socket_address(address)?;
-        let mut stream = TcpStream::connect(&runtime, address)?;
-        wait_for_node(&runtime, alloc, &mut stream)?;
-        let socket = TcpSocket::new(runtime, alloc, stream, address, None)?;
+        let stream = TcpStream::connect(&runtime, address)?;
+        wait_for_node(&stream)?;
+        let socket = TcpSocket::new(runtime, stream, address, None)?;
         Ok(RealLink::new(socket))
     }
 
-    // A connection that stands. What it is given goes out at once (`TCP_NODELAY`).
+    // A connection that stands. An error: its options can't be set.
     fn new(
         runtime: R,
-        alloc: Global,
-        mut stream: TcpStream,
+        stream: TcpStream,
         address: SocketAddr,
         accepted: Option<Instant>,
     ) -> io::Result<TcpSocket<R>> {
-        stream.set_nodelay(true)?;
-        keep_alive(&stream)?;
-        let waiter = Waiter::new(&runtime, alloc, &mut stream, Interest::READABLE)?;
+        set_options(&stream)?;
         Ok(TcpSocket {
-            open: Some(OpenStream { stream, waiter }),
+            stream: Some(stream),
             runtime,
             address,
             accepted,
@@ -133,10 +116,8 @@ impl<R: Net + Clock + Eprint + Copy> TcpSocket<R> {
 }
 
 // Waits until a connection that was begun stands. An error: it failed, or the time is up.
-fn wait_for_node<R: Net>(runtime: &R, alloc: Global, stream: &mut TcpStream) -> io::Result<()> {
-    let mut waiter = Waiter::new(runtime, alloc, stream, Interest::WRITABLE)?;
-    waiter.wait(CONNECT_WAIT);
-    waiter.poll.registry().deregister(stream)?;
+fn wait_for_node(stream: &TcpStream) -> io::Result<()> {
+    wait_for(stream, POLLOUT, CONNECT_WAIT);
     if let Some(error) = stream.take_error()? {
         return Err(error);
     }
@@ -148,7 +129,7 @@ fn wait_for_node<R: Net>(runtime: &R, alloc: Global, stream: &mut TcpStream) -> 
 fn socket_address(text: &str) -> io::Result<SocketAddr> {
     match text.parse::<SocketAddr>() {
         Ok(address) => Ok(address),
-        Err(_fault) => Err(io::Error::from(io::ErrorKind::InvalidInput)),
+        Err(_fault) => Err(io::Error::from(ErrorKind::InvalidInput)),
     }
 }
 
@@ -166,8 +147,8 @@ impl<R: Clock + Eprint + Copy> SocketAttempt for TcpSocket<R> {
 
     fn attempt_read(&mut self, buf: &mut [u8]) -> io::Result<usize> {
         self.was_asked = true;
-        let outcome = match &mut self.open {
-            Some(open) => open.stream.read(buf),
+        let outcome = match &mut self.stream {
+            Some(stream) => stream.read(buf),
             None => Ok(0),
         };
         if let Err(error) = &outcome {
@@ -177,9 +158,9 @@ impl<R: Clock + Eprint + Copy> SocketAttempt for TcpSocket<R> {
     }
 
     fn attempt_write(&mut self, piece: &[u8]) -> io::Result<usize> {
-        let outcome = match &mut self.open {
-            Some(open) => open.stream.write(piece),
-            None => Err(io::Error::from(io::ErrorKind::NotConnected)),
+        let outcome = match &mut self.stream {
+            Some(stream) => stream.write(piece),
+            None => Err(io::Error::from(ErrorKind::NotConnected)),
         };
         if let Err(error) = &outcome {
             tell_fault(self.runtime, "sending to", self.address, error);
@@ -188,8 +169,8 @@ impl<R: Clock + Eprint + Copy> SocketAttempt for TcpSocket<R> {
     }
 
     fn wait(&mut self) -> bool {
-        match &mut self.open {
-            Some(open) => open.waiter.wait(WAIT),
+        match &self.stream {
+            Some(stream) => wait_for(stream, POLLIN, WAIT),
             None => false,
         }
     }
@@ -198,18 +179,18 @@ impl<R: Clock + Eprint + Copy> SocketAttempt for TcpSocket<R> {
         let Some(accepted) = self.accepted else {
             return Some(0);
         };
-        let Ok(age) = accepted.elapsed(&self.runtime) else {
+        let Ok(now) = Instant::now(&self.runtime) else {
             Notices::new(self.runtime).tell("the clock can't be read");
             return None;
         };
-        u64::try_from(age.as_millis()).ok()
+        millis_between(accepted, now)
     }
 
     fn shut(&mut self) {
-        let Some(open) = self.open.take() else {
+        let Some(stream) = self.stream.take() else {
             return;
         };
-        open.close();
+        close(stream);
         if self.accepted.is_some() {
             tell_end(self.runtime, self.address, self.was_asked);
         }
@@ -239,41 +220,28 @@ fn tell_end<R: Clock + Eprint + Copy>(runtime: R, address: SocketAddr, was_asked
     }
 }
 
-// Has the system ask after a node that is silent (`SO_KEEPALIVE`). The kit's sockets have no method
-// for it, so this is the call of C; what it requires is proved.
-fn keep_alive(stream: &TcpStream) -> io::Result<()> {
-    let mut on = [0u8; 16];
-    on[..4].copy_from_slice(&1i32.to_ne_bytes());
-    let fd = stream.as_raw_fd();
-    if unsafe { setsockopt(fd, SOL_SOCKET, SO_KEEPALIVE, &on, 4) } < 0 {
-        return Err(io::Error::from(io::ErrorKind::Other));
-    }
-    Ok(())
-}
-
 /// Accepts connections at one address. It waits 200 milliseconds at most.
 #[derive(Drop)]
 pub struct TcpGate<R> {
     listener: TcpListener,
-    waiter: Waiter,
     runtime: R,
-    alloc: Global,
+    /// Whether there is a hindrance, of which an operator was told. It is over once an attempt
+    /// finds that no connection stands there.
+    is_hindered: bool,
 }
 
 impl<R: Net + Clock + Eprint + Copy> TcpGate<R> {
     /// Listens at an address such as `127.0.0.1:102` or `[::1]:102`, with `SO_REUSEADDR`; at port 0
     /// the system chooses the port. An error: the text is no such address, the port is in use or
     /// isn't allowed, or no memory or descriptor is left.
-    pub fn listen(runtime: R, alloc: Global, address: &str) -> io::Result<RealListener<TcpGate<R>>>
+    pub fn listen(runtime: R, address: &str) -> io::Result<RealListener<TcpGate<R>>>
         ensures { IfOk result (λ listener. listener.1 ≡ 0) }
     {
-        let mut listener = TcpListener::bind(&runtime, socket_address(address)?)?;
-        let waiter = Waiter::new(&runtime, alloc, &mut listener, Interest::READABLE)?;
+        let listener = TcpListener::bind(&runtime, socket_address(address)?)?;
         Ok(RealListener::new(TcpGate {
             listener,
-            waiter,
             runtime,
-            alloc,
+            is_hindered: false,
         }))
     }
 
@@ -281,17 +249,60 @@ impl<R: Net + Clock + Eprint + Copy> TcpGate<R> {
     pub fn address(&self) -> io::Result<SocketAddr> {
         self.listener.local_addr()
     }
-}
 
-// Accepts one connection.
-fn accept_one<R: Net + Clock + Eprint + Copy>(
-    runtime: R,
-    alloc: Global,
-    listener: &TcpListener,
-) -> io::Result<TcpSocket<R>> {
-    let (stream, from) = listener.accept()?;
-    let now = Instant::now(&runtime)?;
-    TcpSocket::new(runtime, alloc, stream, from, Some(now))
+    // Keeps whether there is a hindrance, and tells as it begins and as it is over.
+    fn keep_hindrance(&mut self, hindrance: Option<&io::Error>) {
+        let notices = Notices::new(self.runtime);
+        match notice_due(self.is_hindered, hindrance.is_some()) {
+            Some(Turn::Begins) => {
+                if let Some(error) = hindrance {
+                    notices.tell(format_args!("connections can't be accepted for now: {error}"));
+                }
+            }
+            Some(Turn::Ends) => notices.tell("connections can be accepted again"),
+            None => {}
+        }
+        self.is_hindered = hindrance.is_some();
+    }
+
+    // A connection that came, from where and when. A clock that can't be read leaves it there.
+    fn arrive(&self) -> io::Result<(TcpStream, SocketAddr, Instant)> {
+        let now = Instant::now(&self.runtime)?;
+        let (stream, from) = self.listener.accept()?;
+        Ok((stream, from, now))
+    }
+
+    // A connection that came. Where its options can't be set, it is closed, and is no arrival.
+    fn take(
+        &mut self,
+        stream: TcpStream,
+        from: SocketAddr,
+        now: Instant,
+    ) -> io::Result<TcpSocket<R>> {
+        match TcpSocket::new(self.runtime, stream, from, Some(now)) {
+            Ok(socket) => {
+                Notices::new(self.runtime).tell(format_args!("accepted a connection from {from}"));
+                Ok(socket)
+            }
+            Err(error) => {
+                self.keep_hindrance(Some(&error));
+                Err(io::Error::from(ErrorKind::ConnectionAborted))
+            }
+        }
+    }
+
+    // Tells what hinders an accept, or what fails it.
+    fn tell_refusal(&mut self, error: &io::Error) {
+        if is_hindrance(error) {
+            self.keep_hindrance(Some(error));
+        } else if would_wait(error) {
+            self.keep_hindrance(None);
+        } else if !is_no_arrival(error) {
+            Notices::new(self.runtime).tell(format_args!(
+                "a connection can't be accepted: {error}"
+            ));
+        }
+    }
 }
 
 impl<R: Net + Clock + Eprint + Copy> AcceptAttempt for TcpGate<R> {
@@ -303,23 +314,21 @@ impl<R: Net + Clock + Eprint + Copy> AcceptAttempt for TcpGate<R> {
     ghost waits = { λ before could after. ⊤ };
 
     fn attempt_accept(&mut self) -> io::Result<TcpSocket<R>> {
-        let outcome = accept_one(self.runtime, self.alloc, &self.listener);
-        let notices = Notices::new(self.runtime);
-        match &outcome {
-            Ok(socket) => {
-                let from = socket.address;
-                notices.tell(format_args!("accepted a connection from {from}"));
-            }
+        match self.arrive() {
+            Ok((stream, from, now)) => self.take(stream, from, now),
             Err(error) => {
-                if !is_no_arrival(error) {
-                    notices.tell(format_args!("a connection can't be accepted: {error}"));
-                }
+                self.tell_refusal(&error);
+                Err(error)
             }
         }
-        outcome
     }
 
     fn wait(&mut self) -> bool {
-        self.waiter.wait(WAIT)
+        if self.is_hindered {
+            // connections that stand before the listener would end a wait for one at once
+            thread::sleep(&self.runtime, Duration::from_millis(HINDERED_WAIT));
+            return true;
+        }
+        wait_for(&self.listener, POLLIN, WAIT)
     }
 }

@@ -6,29 +6,29 @@ use Rattle.std.specs.Prelude.{option_map}
 use Rattle.std.proofs.lemmas.List.{append-nil}
 use Rattle.outside.specs.Sink.{SinkTold, AppendsAll, AppendsPart}
 use Rattle.outside.proofs.Writing.{Appends-none}
-use Rattle.outside_links.specs.Jobs.{SpawnerTold}
-use Rattle.outside_links.specs.Links.{LinkTold}
-use Rattle.outside_links.specs.Listeners.{ListenerTold, RetiredIsWithin}
+use Rattle.outside.specs.Links.Jobs.{SpawnerTold}
+use Rattle.outside.specs.Links.Links.{LinkTold}
+use Rattle.outside.specs.Links.Listeners.{ListenerTold, RetiredIsWithin}
 use Rattle.bilateral.specs.Rows.{CentreRows}
 use Rattle.share_turn.specs.Entries.{own}
 use Rattle.share_turn.specs.Public.{IsOf, at}
 use Rattle.share_turn.proofs.Owned.{each_append}
 use Rattle.node_server.specs.NodeCalls.{NodeCall, NodeLog, NodeSeat}
-use Rattle.plant_orders.specs.PlantHistory.{lines_given}
-use Rattle.server_jobs.specs.declared.parts.JobParts.{JobParts}
-use Rattle.server_run.specs.Gathering.{SharedNode, SeatClaim}
-use Rattle.server_run.specs.Starting.{TakesBack}
-use Rattle.server_run.specs.Accepting.{accepting}
-use Rattle.server_run.specs.Beginning.{IsFirstSeat, BeginsJobs, IsBeginning}
-use Rattle.server_run.specs.Serving.{KeepsServing}
-use Rattle.server_run.specs.Rounds.{ServingState, serving_state, ServesOn}
-use Rattle.server_run.specs.declared.beginning.Begun.{Begun}
-use Rattle.server_run.specs.declared.beginning.Beginning.{Beginning}
-use Rattle.server_run.specs.declared.beginning.Beginning.TheVariants as beginnings
-use Rattle.server_run.specs.declared.serving.ServingEnd.{ServingEnd}
-use Rattle.server_run.specs.declared.serving.ServingEnd.TheVariants as servings
-use Rattle.server_rounds.specs.Rounds.{is_plant_end, PlantHas, SeatAfterRounds}
-use Rattle.server_rounds.specs.Rounds.{ListenerAfterRounds, RoundsDone, without_seat}
+use Rattle.server_main.specs.Plant.PlantHistory.{lines_given}
+use Rattle.node_server.specs.declared.jobs.parts.JobParts.{JobParts}
+use Rattle.server_main.specs.Run.Gathering.{SharedNode, SeatClaim}
+use Rattle.server_main.specs.Run.Starting.{TakesBack}
+use Rattle.server_main.specs.Run.Accepting.{accepting}
+use Rattle.server_main.specs.Run.Beginning.{IsFirstSeat, BeginsJobs, IsBeginning}
+use Rattle.server_main.specs.Run.Serving.{KeepsServing}
+use Rattle.server_main.specs.Run.Rounds.{ServingState, serving_state, ServesOn}
+use Rattle.server_main.specs.declared.run.beginning.Begun.{Begun}
+use Rattle.server_main.specs.declared.run.beginning.Beginning.{Beginning}
+use Rattle.server_main.specs.declared.run.beginning.Beginning.TheVariants as beginnings
+use Rattle.server_main.specs.declared.run.serving.ServingEnd.{ServingEnd}
+use Rattle.server_main.specs.declared.run.serving.ServingEnd.TheVariants as servings
+use Rattle.server_main.specs.Rounds.Rounds.{is_plant_end, PlantHas, SeatAfterRounds}
+use Rattle.server_main.specs.Rounds.Rounds.{ListenerAfterRounds, RoundsDone, without_seat}
 use Rattle.server_main.specs.declared.work_end.WorkEnd.{WorkEnd}
 use Rattle.server_main.specs.declared.work_end.WorkEnd.TheVariants as works
 use Rattle.server_main.specs.ServedParts.{is_listener_work, is_plant_work, CountsRefused}

@@ -5,7 +5,7 @@ use Rattle.tase_views.specs.declared.event.EventKind.{EventKind}
 use Rattle.share_turn.specs.Entries.{Each, own, Keeps, Claims, AllDiffer}
 use Rattle.share_turn.proofs.Owned.{none_both, is_own}
 use Rattle.node_server.specs.NodeCalls.{NodeLog}
-use Rattle.server_run.specs.Gathering.{SeatClaim, ClosesOver}
+use Rattle.server_main.specs.Run.Gathering.{SeatClaim, ClosesOver}
 
 each-front : {A : Type 0} (P : A → Type 0) (xs ys : List A) → Each P (xs ++ ys) → Each P xs
 each-front P [] ys each = tt

@@ -3,15 +3,15 @@ use Rattle.std.proofs.Common.{◌≡◌, ◌⊎◌, ℕ, zero, suc, ◌≤◌, B
 use Rattle.std.proofs.Common.{refl, sym, subst, ◌∙◌, arith, inl, inr, Option, Some, None}
 use Rattle.outside.specs.Faults.{counted, next_count}
 use Rattle.outside.specs.Source.{SourceTold}
-use Rattle.outside_links.specs.Clocks.{ClockTold}
-use Rattle.node_turn.specs.declared.turn_node.NodeSetup.{NodeSetup}
-use Rattle.server_run.specs.declared.seats.FeedSeat.{FeedSeat}
-use Rattle.server_run.specs.declared.seats.TickSeat.{TickSeat}
-use Rattle.server_run.specs.declared.seats.Seats.{Seats}
-use Rattle.server_run.specs.Gathering.{SeatClaim, FeedClaims, TicksClaims}
-use Rattle.server_run.specs.declared.serving.ServingEnd.{ServingEnd}
-use Rattle.server_run.specs.declared.serving.ServingEnd.TheVariants as servings
-use Rattle.server_rounds.specs.Rounds.{counted_up, CountsTurnedAway}
+use Rattle.outside.specs.Links.Clocks.{ClockTold}
+use Rattle.node_server.specs.declared.turn.turn_node.NodeSetup.{NodeSetup}
+use Rattle.server_main.specs.declared.run.seats.FeedSeat.{FeedSeat}
+use Rattle.server_main.specs.declared.run.seats.TickSeat.{TickSeat}
+use Rattle.server_main.specs.declared.run.seats.Seats.{Seats}
+use Rattle.server_main.specs.Run.Gathering.{SeatClaim, FeedClaims, TicksClaims}
+use Rattle.server_main.specs.declared.run.serving.ServingEnd.{ServingEnd}
+use Rattle.server_main.specs.declared.run.serving.ServingEnd.TheVariants as servings
+use Rattle.server_main.specs.Rounds.Rounds.{counted_up, CountsTurnedAway}
 use Rattle.server_main.specs.declared.work_end.WorkEnd.{WorkEnd}
 use Rattle.server_main.specs.declared.work_end.WorkEnd.TheVariants as works
 use Rattle.server_main.specs.ServedParts.{is_listener_work, CountsRefused, fails_outside}

@@ -3,8 +3,8 @@ use Rattle.std.proofs.Common.{◌≡◌, ℕ, Bool, true, false, ◌||◌, refl,
 use Rattle.std.proofs.Common.{Option, Some, None}
 use Rattle.node_server.specs.declared.feed_end.FeedEnd.{FeedEnd}
 use Rattle.node_server.specs.declared.feed_end.FeedEnd.TheVariants as feed_ends
-use Rattle.server_run.specs.declared.seats.FeedSeat.{FeedSeat}
-use Rattle.server_run.specs.declared.seats.Seats.{Seats}
+use Rattle.server_main.specs.declared.run.seats.FeedSeat.{FeedSeat}
+use Rattle.server_main.specs.declared.run.seats.Seats.{Seats}
 use Rattle.server_main.specs.declared.fullness.Fullness.{Fullness}
 use Rattle.server_main.specs.declared.work_end.WorkEnd.{WorkEnd}
 use Rattle.server_main.specs.declared.serve_end.ServeEnd.{ServeEnd}

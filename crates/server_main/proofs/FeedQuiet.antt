@@ -5,7 +5,7 @@ use Rattle.std.specs.Prelude.{if◌then◌else◌, nat_lt, codes, bytes_eq}
 use Rattle.std.proofs.lemmas.List.{map-append}
 use Rattle.outside.specs.Faults.{next_count}
 use Rattle.outside.specs.Source.{SourceTold}
-use Rattle.outside_links.specs.Clocks.{ClockTold}
+use Rattle.outside.specs.Links.Clocks.{ClockTold}
 use Rattle.plain_text.specs.Lines.{is_skipped}
 use Rattle.plain_text.specs.Numbers.{number_up_to}
 use Rattle.plain_text.specs.Words.{words_in}
@@ -17,12 +17,12 @@ use Rattle.tase_views.specs.declared.event.EventKind.{EventKind}
 use Rattle.tase_views.specs.declared.event.EventKind.TheVariants as events
 use Rattle.tase_views.specs.Outcomes.{has_slot}
 use Rattle.tase_views.specs.History.{is_stop}
-use Rattle.event_text.specs.FeedLines.{feed_event_in, feed_words_in, update_in, update_of}
-use Rattle.event_text.specs.FeedLines.{sample_in, choice_in, choice_of, tagging_in}
-use Rattle.event_text.specs.FeedLines.{tag_words_in, ask_in, ask_of, stop_in}
-use Rattle.event_text.specs.declared.feed.TheConstants.{TABLE_NUMBER_LIMIT, SLOT_NUMBER_LIMIT}
+use Rattle.texts.specs.Events.FeedLines.{feed_event_in, feed_words_in, update_in, update_of}
+use Rattle.texts.specs.Events.FeedLines.{sample_in, choice_in, choice_of, tagging_in}
+use Rattle.texts.specs.Events.FeedLines.{tag_words_in, ask_in, ask_of, stop_in}
+use Rattle.texts.specs.declared.events.feed.TheConstants.{TABLE_NUMBER_LIMIT, SLOT_NUMBER_LIMIT}
 use Rattle.share_turn.specs.Entries.{Each, own}
-use Rattle.node_turn.specs.declared.turn_node.NodeSetup.{NodeSetup}
+use Rattle.node_server.specs.declared.turn.turn_node.NodeSetup.{NodeSetup}
 use Rattle.node_server.specs.declared.feed_reader.TheConstants.{LINE_LIMIT}
 use Rattle.node_server.specs.declared.feed_reader.FeedSays.{FeedSays}
 use Rattle.node_server.specs.declared.feed_reader.FeedSays.TheVariants as says
@@ -35,9 +35,9 @@ use Rattle.node_server.specs.NodeCalls.{NodeCall, StopsBehind}
 use Rattle.node_server.specs.FeedReading.{Fed, FeedPlace, event_says, line_says, says_then}
 use Rattle.node_server.specs.FeedReading.{fed_from, yet_fed, feed_lines}
 use Rattle.node_server.specs.Feeding.{FedTo, asked_in, first_place}
-use Rattle.server_run.specs.declared.seats.FeedSeat.{FeedSeat}
-use Rattle.server_run.specs.declared.seats.TickSeat.{TickSeat}
-use Rattle.server_run.specs.Gathering.{SeatClaim, HasFed, HasTicked}
+use Rattle.server_main.specs.declared.run.seats.FeedSeat.{FeedSeat}
+use Rattle.server_main.specs.declared.run.seats.TickSeat.{TickSeat}
+use Rattle.server_main.specs.Run.Gathering.{SeatClaim, HasFed, HasTicked}
 use Rattle.server_main.proofs.OwnStop.{one-stop, none-stop, IsStop}
 use Rattle.server_main.proofs.Quiet.{IsQuiet, AllQuiet, QuietIfSome, then-quiet, map-quiet}
 use Rattle.server_main.proofs.Quiet.{if-quiet, front-quiet, append-quiet, taken-quiet, stop-quiet}

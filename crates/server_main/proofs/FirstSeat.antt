@@ -6,8 +6,8 @@ use Rattle.tase_views.specs.declared.fault.StepFault.{StepFault}
 use Rattle.tase_views.specs.declared.reply.Answer.{Answer}
 use Rattle.share_turn.specs.Entries.{Keeps}
 use Rattle.share_turn.specs.Public.{Came, added, at}
-use Rattle.node_turn.specs.declared.turn_node.NodeSetup.{NodeSetup}
-use Rattle.node_turn.specs.Logged.{IsRightTurn}
+use Rattle.node_server.specs.declared.turn.turn_node.NodeSetup.{NodeSetup}
+use Rattle.node_server.specs.Turn.Logged.{IsRightTurn}
 use Rattle.node_server.specs.NodeCalls.{NodeCall, NodeLog, NodeSeat, CallsNode}
 use Rattle.node_server.proofs.Calling.{calls-append}
 

@@ -2,22 +2,22 @@
 use Rattle.std.proofs.Common.{◌≡◌, ℕ, List, ◌∷◌, ◌++◌, length, refl, sym, ap, subst, ◌∙◌}
 use Rattle.std.proofs.Common.{◌≤◌, Option, Some, None}
 use Rattle.outside.specs.Source.{SourceTold}
-use Rattle.outside_links.specs.Clocks.{ClockTold}
-use Rattle.outside_links.specs.Jobs.{SpawnerTold}
-use Rattle.outside_links.specs.Listeners.{ListenerTold}
+use Rattle.outside.specs.Links.Clocks.{ClockTold}
+use Rattle.outside.specs.Links.Jobs.{SpawnerTold}
+use Rattle.outside.specs.Links.Listeners.{ListenerTold}
 use Rattle.share_turn.specs.Entries.{Each}
 use Rattle.share_turn.specs.Public.{IsOf}
 use Rattle.node_server.specs.NodeCalls.{NodeLog, NodeSeat}
-use Rattle.server_jobs.specs.declared.parts.JobParts.{JobParts}
-use Rattle.server_run.specs.declared.seats.FeedSeat.{FeedSeat}
-use Rattle.server_run.specs.declared.seats.TickSeat.{TickSeat}
-use Rattle.server_run.specs.declared.seats.Seats.{Seats}
-use Rattle.server_run.specs.Gathering.{SharedNode, SeatClaim, ServedLink, FeedRun, TicksRun}
-use Rattle.server_run.specs.Gathering.{FeedGathered, TicksGathered, FinishesLinks, gathering}
-use Rattle.server_run.specs.Gathering.{GathersJobs, ClaimsJobs, Gathers, ClosesOver}
-use Rattle.server_run.specs.Gathering.{behind_started, FeedStarted, TicksStarted, IsLinkJob}
-use Rattle.server_run.specs.Retiring.{LinksNoted, AreOut}
-use Rattle.server_run.specs.Accepting.{Accepting}
+use Rattle.node_server.specs.declared.jobs.parts.JobParts.{JobParts}
+use Rattle.server_main.specs.declared.run.seats.FeedSeat.{FeedSeat}
+use Rattle.server_main.specs.declared.run.seats.TickSeat.{TickSeat}
+use Rattle.server_main.specs.declared.run.seats.Seats.{Seats}
+use Rattle.server_main.specs.Run.Gathering.{SharedNode, SeatClaim, ServedLink, FeedRun, TicksRun}
+use Rattle.server_main.specs.Run.Gathering.{FeedGathered, TicksGathered, FinishesLinks, gathering}
+use Rattle.server_main.specs.Run.Gathering.{GathersJobs, ClaimsJobs, Gathers, ClosesOver}
+use Rattle.server_main.specs.Run.Gathering.{behind_started, FeedStarted, TicksStarted, IsLinkJob}
+use Rattle.server_main.specs.Run.Retiring.{LinksNoted, AreOut}
+use Rattle.server_main.specs.Run.Accepting.{Accepting}
 use Rattle.server_main.specs.Working.{Telling, InputsTold, IsToGather}
 use Rattle.server_main.specs.Gathered.{HasGathered}
 

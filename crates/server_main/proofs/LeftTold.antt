@@ -9,8 +9,8 @@ use Rattle.tase_views.specs.History.{Past}
 use Rattle.tase_views.specs.OwnTables.{own_tables}
 use Rattle.tase_views.specs.View.{moves_in}
 use Rattle.tase_views.specs.Orders.{orders_left}
-use Rattle.node_turn.specs.Logged.{turn_log, logged_entry}
-use Rattle.order_text.specs.PlantLines.{plant_text}
+use Rattle.node_server.specs.Turn.Logged.{turn_log, logged_entry}
+use Rattle.texts.specs.Orders.PlantLines.{plant_text}
 use Rattle.server_main.specs.Gathered.{lines_left, TellsLeft}
 
 paired_back : (history : List Entry) → map logged_entry (turn_log history) ≡ history

@@ -13,3 +13,6 @@ mod GatheredJobs
 mod EndFirst
 mod LeftTold
 mod ServedAll
+pub mod OfPlant
+pub mod OfRun
+pub mod OfRounds

@@ -10,23 +10,23 @@ use Rattle.tase_views.specs.declared.event.EventKind.{EventKind}
 use Rattle.tase_views.specs.declared.event.EventKind.TheVariants as events
 use Rattle.share_turn.specs.Entries.{Each, own}
 use Rattle.share_turn.specs.Public.{at}
-use Rattle.tase_map.specs.Inputs.{Item}
-use Rattle.tase_map.specs.Turns.{Turn, turns_of}
-use Rattle.tase_map.specs.Turns as turns
-use Rattle.tase_map.specs.Asks.{asks_of, asks_at, asks_behind, open_of, event_if, is_open_behind}
-use Rattle.tase_map.specs.Asks.{up_to_last}
-use Rattle.tase_map.specs.Sent.{events_by, event_by}
-use Rattle.tase_conn.specs.declared.stage.ConnEnd.{ConnEnd}
-use Rattle.tase_conn.specs.declared.stage.ConnEnd.TheVariants as conn_ends
-use Rattle.conn_service.specs.Sends.{HasEvents, IsCutOff, close_of}
-use Rattle.node_turn.specs.declared.turn_node.NodeSetup.{NodeSetup}
-use Rattle.node_turn.specs.Logged.{past_in, IsRightTurn}
+use Rattle.node_server.specs.TaseConn.Map.Inputs.{Item}
+use Rattle.node_server.specs.TaseConn.Map.Turns.{Turn, turns_of}
+use Rattle.node_server.specs.TaseConn.Map.Turns as turns
+use Rattle.node_server.specs.TaseConn.Map.Asks.{asks_of, asks_at, asks_behind, open_of, event_if, is_open_behind}
+use Rattle.node_server.specs.TaseConn.Map.Asks.{up_to_last}
+use Rattle.node_server.specs.TaseConn.Map.Sent.{events_by, event_by}
+use Rattle.node_server.specs.TaseConn.declared.stage.ConnEnd.{ConnEnd}
+use Rattle.node_server.specs.TaseConn.declared.stage.ConnEnd.TheVariants as conn_ends
+use Rattle.node_server.specs.ConnService.Sends.{HasEvents, IsCutOff, close_of}
+use Rattle.node_server.specs.declared.turn.turn_node.NodeSetup.{NodeSetup}
+use Rattle.node_server.specs.Turn.Logged.{past_in, IsRightTurn}
 use Rattle.node_server.specs.NodeCalls.{NodeCall, AsksStop}
 use Rattle.node_server.specs.SeatCalls.{taken_events}
 use Rattle.node_server.proofs.Calling.{calls_own}
-use Rattle.seat_service.specs.Serving.{shared_setup}
-use Rattle.link_service.specs.ServedLinks.{StopsIfFull}
-use Rattle.server_run.specs.Gathering.{ServedLink, HasServed}
+use Rattle.node_server.specs.Seats.Serving.{shared_setup}
+use Rattle.node_server.specs.Links.ServedLinks.{StopsIfFull}
+use Rattle.server_main.specs.Run.Gathering.{ServedLink, HasServed}
 use Rattle.server_main.proofs.OwnStop.{IsStop}
 use Rattle.server_main.proofs.Quiet.{IsQuiet, AllQuiet, front-quiet, append-quiet, back-quiet}
 use Rattle.server_main.proofs.Quiet.{stop-quiet, own-quiet}

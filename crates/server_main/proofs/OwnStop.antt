@@ -17,12 +17,12 @@ use Rattle.tase_views.specs.Orders.{orders_left}
 use Rattle.share_turn.specs.Entries.{Each, own, Keeps}
 use Rattle.share_turn.specs.Public.{at, added}
 use Rattle.share_turn.proofs.Owned.{own_append, none_both}
-use Rattle.node_turn.specs.declared.turn_node.NodeSetup.{NodeSetup}
-use Rattle.node_turn.specs.Logged.{logged_entry, past_in}
+use Rattle.node_server.specs.declared.turn.turn_node.NodeSetup.{NodeSetup}
+use Rattle.node_server.specs.Turn.Logged.{logged_entry, past_in}
 use Rattle.node_server.specs.NodeCalls.{NodeCall, NodeLog, NodeSeat, CallsNode, StopsBehind}
-use Rattle.order_text.specs.PlantLines.{plant_text}
-use Rattle.plant_orders.specs.PlantHistory.{given_by, given_at, orders_given, lines_given}
-use Rattle.server_run.specs.declared.serving.ServingEnd.TheVariants as servings
+use Rattle.texts.specs.Orders.PlantLines.{plant_text}
+use Rattle.server_main.specs.Plant.PlantHistory.{given_by, given_at, orders_given, lines_given}
+use Rattle.server_main.specs.declared.run.serving.ServingEnd.TheVariants as servings
 use Rattle.server_main.specs.declared.work_end.WorkEnd.{WorkEnd}
 use Rattle.server_main.specs.declared.work_end.WorkEnd.TheVariants as works
 

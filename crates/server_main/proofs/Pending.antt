@@ -2,17 +2,17 @@
 use Rattle.std.proofs.Common.{◌≡◌, ℕ, ◌+◌, ◌≤◌, List, [], ◌∷◌, ◌++◌, length, drop, refl, sym, ap}
 use Rattle.std.proofs.Common.{subst, ◌∙◌, arith, Option, Some, None, IfSome}
 use Rattle.std.proofs.lemmas.List.{append-nil}
-use Rattle.outside_links.specs.Jobs.{SpawnerTold}
-use Rattle.outside_links.specs.Links.{LinkTold}
-use Rattle.outside_links.specs.Listeners.{ListenerTold, RetiredIsWithin}
+use Rattle.outside.specs.Links.Jobs.{SpawnerTold}
+use Rattle.outside.specs.Links.Links.{LinkTold}
+use Rattle.outside.specs.Links.Listeners.{ListenerTold, RetiredIsWithin}
 use Rattle.share_turn.specs.Public.{IsOf, at}
 use Rattle.node_server.specs.NodeCalls.{NodeLog, NodeSeat}
-use Rattle.server_jobs.specs.declared.parts.JobParts.{JobParts}
-use Rattle.server_run.specs.Gathering.{SharedNode, FirstIs, FeedStarted, TicksStarted}
-use Rattle.server_run.specs.Gathering.{behind_started}
-use Rattle.server_run.specs.Retiring.{AreOut}
-use Rattle.server_run.specs.Accepting.{Accepting, accepting}
-use Rattle.server_run.specs.Serving.{IsServing}
+use Rattle.node_server.specs.declared.jobs.parts.JobParts.{JobParts}
+use Rattle.server_main.specs.Run.Gathering.{SharedNode, FirstIs, FeedStarted, TicksStarted}
+use Rattle.server_main.specs.Run.Gathering.{behind_started}
+use Rattle.server_main.specs.Run.Retiring.{AreOut}
+use Rattle.server_main.specs.Run.Accepting.{Accepting, accepting}
+use Rattle.server_main.specs.Run.Serving.{IsServing}
 use Rattle.server_main.specs.Working.{Telling, InputsTold, IsToGather, no_links}
 
 -- none are out where no more were retired than given

@@ -7,10 +7,10 @@ use Rattle.bilateral.specs.Rows.{CentreRows}
 use Rattle.tase_views.specs.OwnTables.{own_tables}
 use Rattle.tase_views.specs.View.{moves_in}
 use Rattle.tase_views.specs.Orders.{orders_of}
-use Rattle.node_turn.specs.Logged.{past_in}
+use Rattle.node_server.specs.Turn.Logged.{past_in}
 use Rattle.node_server.specs.NodeCalls.{NodeLog}
-use Rattle.order_text.specs.PlantLines.{plant_text}
-use Rattle.plant_orders.specs.PlantHistory.{lines_given}
+use Rattle.texts.specs.Orders.PlantLines.{plant_text}
+use Rattle.server_main.specs.Plant.PlantHistory.{lines_given}
 use Rattle.server_main.specs.ServedParts.{HasAllOrders}
 use Rattle.server_main.specs.Working.{HasOwnLines}
 use Rattle.server_main.specs.Gathered.{lines_left, TellsLeft}

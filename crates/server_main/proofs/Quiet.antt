@@ -13,11 +13,11 @@ use Rattle.tase_views.specs.Moves.{sort_of}
 use Rattle.share_turn.specs.Entries.{Each, own}
 use Rattle.share_turn.specs.Public.{added}
 use Rattle.share_turn.proofs.Owned.{each_append, own_append}
-use Rattle.tase_map.specs.Sent.{events_by, event_by}
-use Rattle.node_turn.specs.Logged.{past_in, logged_entry}
+use Rattle.node_server.specs.TaseConn.Map.Sent.{events_by, event_by}
+use Rattle.node_server.specs.Turn.Logged.{past_in, logged_entry}
 use Rattle.node_server.specs.NodeCalls.{NodeCall, NodeLog}
 use Rattle.node_server.specs.SeatCalls.{taken_events}
-use Rattle.plant_orders.specs.PlantHistory.{AsksOrders}
+use Rattle.server_main.specs.Plant.PlantHistory.{AsksOrders}
 
 abbrev pub IsQuiet : EventKind → Type 0
 IsQuiet event = AsksOrders (sort_of event) → ⊥

@@ -5,21 +5,21 @@ use Rattle.std.proofs.Common.{append_assoc, inr, Option, Some, None, is_some, If
 use Rattle.std.specs.Prelude.{option_map}
 use Rattle.outside.specs.Faults.{counted}
 use Rattle.outside.specs.Sink.{SinkTold}
-use Rattle.outside_links.specs.Links.{LinkTold}
-use Rattle.outside_links.specs.Listeners.{ListenerTold}
+use Rattle.outside.specs.Links.Links.{LinkTold}
+use Rattle.outside.specs.Links.Listeners.{ListenerTold}
 use Rattle.bilateral.specs.Rows.{CentreRows}
 use Rattle.share_turn.specs.Entries.{Each, own, Keeps}
 use Rattle.share_turn.proofs.Owned.{each_append}
-use Rattle.node_turn.specs.declared.turn_node.NodeSetup.{NodeSetup}
+use Rattle.node_server.specs.declared.turn.turn_node.NodeSetup.{NodeSetup}
 use Rattle.node_server.specs.NodeCalls.{NodeLog}
-use Rattle.plant_orders.specs.PlantHistory.{lines_given, TakesAlone}
-use Rattle.server_run.specs.declared.seats.LinkSeat.{LinkSeat}
-use Rattle.server_run.specs.declared.seats.Seats.{Seats}
-use Rattle.server_run.specs.Gathering.{SharedNode, SeatClaim, gathering}
-use Rattle.server_run.specs.Gathering.{ClosesOver, claims_of, laters_of, noted_of}
-use Rattle.server_run.specs.Beginning.{IsFirstSeat}
-use Rattle.server_run.specs.Rounds.{ServingState}
-use Rattle.server_rounds.specs.Rounds.{without_seat}
+use Rattle.server_main.specs.Plant.PlantHistory.{lines_given, TakesAlone}
+use Rattle.server_main.specs.declared.run.seats.LinkSeat.{LinkSeat}
+use Rattle.server_main.specs.declared.run.seats.Seats.{Seats}
+use Rattle.server_main.specs.Run.Gathering.{SharedNode, SeatClaim, gathering}
+use Rattle.server_main.specs.Run.Gathering.{ClosesOver, claims_of, laters_of, noted_of}
+use Rattle.server_main.specs.Run.Beginning.{IsFirstSeat}
+use Rattle.server_main.specs.Run.Rounds.{ServingState}
+use Rattle.server_main.specs.Rounds.Rounds.{without_seat}
 use Rattle.server_main.specs.declared.serve_end.ServeEnd.{ServeEnd}
 use Rattle.server_main.specs.declared.work_end.WorkEnd.{WorkEnd}
 use Rattle.server_main.specs.declared.work_end.WorkEnd.TheVariants as works

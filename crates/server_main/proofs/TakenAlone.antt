@@ -2,18 +2,18 @@
 use Rattle.std.proofs.Common.{◌≡◌, ℕ, List, [], ◌∷◌, ◌++◌}
 use Rattle.std.proofs.Common.{sym, ap, subst, ◌∙◌, inl, inr, Option, Some, None, append_assoc}
 use Rattle.outside.specs.Source.{SourceTold}
-use Rattle.outside_links.specs.Clocks.{ClockTold}
+use Rattle.outside.specs.Links.Clocks.{ClockTold}
 use Rattle.tase_views.specs.declared.event.EventKind.{EventKind}
 use Rattle.tase_views.specs.Moves.{sort_of}
 use Rattle.share_turn.specs.Entries.{Each, own, Keeps, Claims}
 use Rattle.share_turn.proofs.Owned.{each_append, is_own, own_append}
-use Rattle.node_turn.specs.declared.turn_node.NodeSetup.{NodeSetup}
+use Rattle.node_server.specs.declared.turn.turn_node.NodeSetup.{NodeSetup}
 use Rattle.node_server.specs.NodeCalls.{NodeLog}
-use Rattle.plant_orders.specs.PlantHistory.{AsksOrders, TakesAlone}
-use Rattle.server_run.specs.declared.seats.FeedSeat.{FeedSeat}
-use Rattle.server_run.specs.declared.seats.TickSeat.{TickSeat}
-use Rattle.server_run.specs.Gathering.{SeatClaim, ServedLink, HasServed, claims_of, FeedClaims}
-use Rattle.server_run.specs.Gathering.{TicksClaims, ClosesOver}
+use Rattle.server_main.specs.Plant.PlantHistory.{AsksOrders, TakesAlone}
+use Rattle.server_main.specs.declared.run.seats.FeedSeat.{FeedSeat}
+use Rattle.server_main.specs.declared.run.seats.TickSeat.{TickSeat}
+use Rattle.server_main.specs.Run.Gathering.{SeatClaim, ServedLink, HasServed, claims_of, FeedClaims}
+use Rattle.server_main.specs.Run.Gathering.{TicksClaims, ClosesOver}
 use Rattle.server_main.proofs.ClaimsLeft.{each-both}
 use Rattle.server_main.proofs.Quiet.{IsQuiet, AllQuiet}
 use Rattle.server_main.proofs.FeedQuiet.{feed-quiet, ticks-quiet}

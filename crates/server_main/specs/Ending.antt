@@ -1,6 +1,6 @@
 -- The end of a server, by what ended how.
 use Rattle.std.specs.Prelude.{◌≡◌, ℕ, false, Option, Some, None}
-use Rattle.server_run.specs.declared.seats.Seats.{Seats}
+use Rattle.server_main.specs.declared.run.seats.Seats.{Seats}
 use Rattle.server_main.specs.ServedParts.{IsAllDone, bad_line_of}
 use Rattle.server_main.specs.declared.fullness.Fullness.{Fullness}
 use Rattle.server_main.specs.declared.work_end.WorkEnd.{WorkEnd}

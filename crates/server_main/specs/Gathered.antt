@@ -1,20 +1,20 @@
 -- What a server gathers of its jobs, and the node that is left.
 use Rattle.std.specs.Prelude.{◌≡◌, ℕ, Bool, true, false, List, ◌∷◌, ◌++◌, length}
 use Rattle.outside.specs.Sink.{SinkTold, AppendsAll, AppendsPart}
-use Rattle.outside_links.specs.Listeners.{ListenerTold}
+use Rattle.outside.specs.Links.Listeners.{ListenerTold}
 use Rattle.bilateral.specs.Rows.{CentreRows}
 use Rattle.tase_views.specs.OwnTables.{own_tables}
 use Rattle.tase_views.specs.View.{moves_in}
 use Rattle.tase_views.specs.Orders.{orders_left}
 use Rattle.share_turn.specs.Entries.{Each}
-use Rattle.node_turn.specs.Logged.{past_in}
+use Rattle.node_server.specs.Turn.Logged.{past_in}
 use Rattle.node_server.specs.NodeCalls.{NodeLog}
-use Rattle.order_text.specs.PlantLines.{plant_text}
-use Rattle.server_run.specs.declared.seats.Seats.{Seats}
-use Rattle.server_run.specs.Gathering.{SharedNode, SeatClaim, ServedLink, HasServed, FeedClaims}
-use Rattle.server_run.specs.Gathering.{TicksClaims, ClosesOver, Gathering, claims_of, laters_of}
-use Rattle.server_run.specs.Gathering.{noted_of}
-use Rattle.server_run.specs.Retiring.{with_all_retired}
+use Rattle.texts.specs.Orders.PlantLines.{plant_text}
+use Rattle.server_main.specs.declared.run.seats.Seats.{Seats}
+use Rattle.server_main.specs.Run.Gathering.{SharedNode, SeatClaim, ServedLink, HasServed, FeedClaims}
+use Rattle.server_main.specs.Run.Gathering.{TicksClaims, ClosesOver, Gathering, claims_of, laters_of}
+use Rattle.server_main.specs.Run.Gathering.{noted_of}
+use Rattle.server_main.specs.Run.Retiring.{with_all_retired}
 use Rattle.server_main.specs.Working.{InputsTold}
 
 -- The jobs were finished, of links so many, and this is what the seats name, what is left of feed

@@ -6,17 +6,17 @@ use Rattle.std.specs.Option.{option_or}
 use Rattle.std.specs.List.{list_any}
 use Rattle.outside.specs.Faults.{next_count}
 use Rattle.outside.specs.Sink.{SinkTold, AppendsAll, AppendsPart}
-use Rattle.outside_links.specs.Links.{LinkTold, IsNewLink, closed_link}
-use Rattle.outside_links.specs.Listeners.{ListenerTold}
+use Rattle.outside.specs.Links.Links.{LinkTold, IsNewLink, closed_link}
+use Rattle.outside.specs.Links.Listeners.{ListenerTold}
 use Rattle.bilateral.specs.Rows.{CentreRows}
 use Rattle.tase_views.specs.OwnTables.{own_tables}
 use Rattle.tase_views.specs.View.{moves_in}
 use Rattle.tase_views.specs.Orders.{orders_of}
 use Rattle.share_turn.specs.Entries.{Each}
-use Rattle.node_turn.specs.declared.turn_node.NodeSetup.{NodeSetup}
-use Rattle.node_turn.specs.Logged.{past_in}
-use Rattle.tase_conn.specs.declared.stage.ConnEnd.{ConnEnd}
-use Rattle.tase_conn.specs.declared.stage.ConnEnd.TheVariants as conn_ends
+use Rattle.node_server.specs.declared.turn.turn_node.NodeSetup.{NodeSetup}
+use Rattle.node_server.specs.Turn.Logged.{past_in}
+use Rattle.node_server.specs.TaseConn.declared.stage.ConnEnd.{ConnEnd}
+use Rattle.node_server.specs.TaseConn.declared.stage.ConnEnd.TheVariants as conn_ends
 use Rattle.node_server.specs.NodeCalls.{NodeCall, NodeLog, NodeSeat, CallsNode, StopsBehind}
 use Rattle.node_server.specs.declared.feed_end.FeedEnd.{FeedEnd}
 use Rattle.node_server.specs.declared.feed_end.FeedEnd.TheVariants as feed_ends
@@ -24,17 +24,17 @@ use Rattle.node_server.specs.Feeding.{is_source_fault}
 use Rattle.node_server.specs.declared.ticking.TickEnd.{TickEnd}
 use Rattle.node_server.specs.declared.ticking.TickEnd.TheVariants as tick_ends
 use Rattle.node_server.specs.Ticking.{is_clock_fault}
-use Rattle.order_text.specs.PlantLines.{plant_text}
-use Rattle.server_run.specs.declared.seats.FeedSeat.{FeedSeat}
-use Rattle.server_run.specs.declared.seats.TickSeat.{TickSeat}
-use Rattle.server_run.specs.declared.seats.LinkSeat.{LinkSeat}
-use Rattle.server_run.specs.declared.seats.Seats.{Seats}
-use Rattle.server_run.specs.declared.serving.ServingEnd.{ServingEnd}
-use Rattle.server_run.specs.declared.serving.ServingEnd.TheVariants as servings
-use Rattle.server_run.specs.Gathering.{ServedLink, HasServed, laters_of, noted_of}
-use Rattle.server_run.specs.Retiring.{with_all_retired}
-use Rattle.server_rounds.specs.Rounds.{is_listener_end, is_plant_end, AsksForOrders, IsLastCall}
-use Rattle.server_rounds.specs.Rounds.{CountsTurnedAway, without_seat}
+use Rattle.texts.specs.Orders.PlantLines.{plant_text}
+use Rattle.server_main.specs.declared.run.seats.FeedSeat.{FeedSeat}
+use Rattle.server_main.specs.declared.run.seats.TickSeat.{TickSeat}
+use Rattle.server_main.specs.declared.run.seats.LinkSeat.{LinkSeat}
+use Rattle.server_main.specs.declared.run.seats.Seats.{Seats}
+use Rattle.server_main.specs.declared.run.serving.ServingEnd.{ServingEnd}
+use Rattle.server_main.specs.declared.run.serving.ServingEnd.TheVariants as servings
+use Rattle.server_main.specs.Run.Gathering.{ServedLink, HasServed, laters_of, noted_of}
+use Rattle.server_main.specs.Run.Retiring.{with_all_retired}
+use Rattle.server_main.specs.Rounds.Rounds.{is_listener_end, is_plant_end, AsksForOrders, IsLastCall}
+use Rattle.server_main.specs.Rounds.Rounds.{CountsTurnedAway, without_seat}
 use Rattle.server_main.specs.declared.work_end.WorkEnd.{WorkEnd}
 use Rattle.server_main.specs.declared.work_end.WorkEnd.TheVariants as works
 use Rattle.server_main.specs.declared.fullness.Fullness.{Fullness}

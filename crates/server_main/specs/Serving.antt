@@ -4,15 +4,15 @@ use Rattle.std.specs.Prelude.{Option, Some, None}
 use Rattle.outside.specs.Faults.{counted}
 use Rattle.outside.specs.Source.{SourceTold}
 use Rattle.outside.specs.Sink.{SinkTold}
-use Rattle.outside_links.specs.Clocks.{ClockTold}
-use Rattle.outside_links.specs.Links.{LinkTold}
-use Rattle.outside_links.specs.Listeners.{ListenerTold}
-use Rattle.node_turn.specs.declared.turn_node.NodeSetup.{NodeSetup}
+use Rattle.outside.specs.Links.Clocks.{ClockTold}
+use Rattle.outside.specs.Links.Links.{LinkTold}
+use Rattle.outside.specs.Links.Listeners.{ListenerTold}
+use Rattle.node_server.specs.declared.turn.turn_node.NodeSetup.{NodeSetup}
 use Rattle.node_server.specs.NodeCalls.{NodeLog}
-use Rattle.server_run.specs.declared.seats.Seats.{Seats}
-use Rattle.server_run.specs.Gathering.{SeatClaim, ServedLink, FeedClaims, TicksClaims, claims_of}
-use Rattle.server_run.specs.Gathering.{ClosesOver}
-use Rattle.server_rounds.specs.Rounds.{counted_up}
+use Rattle.server_main.specs.declared.run.seats.Seats.{Seats}
+use Rattle.server_main.specs.Run.Gathering.{SeatClaim, ServedLink, FeedClaims, TicksClaims, claims_of}
+use Rattle.server_main.specs.Run.Gathering.{ClosesOver}
+use Rattle.server_main.specs.Rounds.Rounds.{counted_up}
 use Rattle.server_main.specs.declared.work_end.WorkEnd.{WorkEnd}
 use Rattle.server_main.specs.declared.work_end.WorkEnd.TheVariants as works
 use Rattle.server_main.specs.declared.serve_end.ServeEnd.{ServeEnd}

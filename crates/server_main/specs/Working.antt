@@ -3,25 +3,25 @@ use Rattle.std.specs.Prelude.{◌≡◌, ℕ, ◌+◌, ◌≤◌, Bool, true, fa
 use Rattle.std.specs.Prelude.{Option, is_some, option_map}
 use Rattle.outside.specs.Source.{SourceTold}
 use Rattle.outside.specs.Sink.{SinkTold, AppendsAll, AppendsPart}
-use Rattle.outside_links.specs.Clocks.{ClockTold}
-use Rattle.outside_links.specs.Links.{LinkTold}
+use Rattle.outside.specs.Links.Clocks.{ClockTold}
+use Rattle.outside.specs.Links.Links.{LinkTold}
 use Rattle.bilateral.specs.Rows.{CentreRows}
 use Rattle.share_turn.specs.Entries.{Each, own}
 use Rattle.share_turn.specs.Public.{IsOf}
-use Rattle.node_turn.specs.declared.turn_node.NodeSetup.{NodeSetup}
+use Rattle.node_server.specs.declared.turn.turn_node.NodeSetup.{NodeSetup}
 use Rattle.node_server.specs.NodeCalls.{NodeCall, NodeLog, NodeSeat, CallsNode, StopsBehind}
-use Rattle.plant_orders.specs.PlantHistory.{lines_given}
-use Rattle.server_jobs.specs.declared.parts.JobParts.{JobParts}
-use Rattle.server_run.specs.Gathering.{SharedNode, SeatClaim, IsLinkJob, FeedStarted, TicksStarted}
-use Rattle.server_run.specs.Gathering.{behind_started}
-use Rattle.server_run.specs.Retiring.{LinksNoted, AreOut}
-use Rattle.server_run.specs.Accepting.{Accepting}
-use Rattle.server_run.specs.Rounds.{ServingState, ServesOn}
-use Rattle.server_run.specs.declared.beginning.Beginning.{Beginning}
-use Rattle.server_run.specs.declared.beginning.Beginning.TheVariants as beginnings
-use Rattle.server_run.specs.declared.serving.ServingEnd.{ServingEnd}
-use Rattle.server_run.specs.declared.serving.ServingEnd.TheVariants as servings
-use Rattle.server_rounds.specs.Rounds.{AsksForOrders, ListenerAfterRounds, without_seat}
+use Rattle.server_main.specs.Plant.PlantHistory.{lines_given}
+use Rattle.node_server.specs.declared.jobs.parts.JobParts.{JobParts}
+use Rattle.server_main.specs.Run.Gathering.{SharedNode, SeatClaim, IsLinkJob, FeedStarted, TicksStarted}
+use Rattle.server_main.specs.Run.Gathering.{behind_started}
+use Rattle.server_main.specs.Run.Retiring.{LinksNoted, AreOut}
+use Rattle.server_main.specs.Run.Accepting.{Accepting}
+use Rattle.server_main.specs.Run.Rounds.{ServingState, ServesOn}
+use Rattle.server_main.specs.declared.run.beginning.Beginning.{Beginning}
+use Rattle.server_main.specs.declared.run.beginning.Beginning.TheVariants as beginnings
+use Rattle.server_main.specs.declared.run.serving.ServingEnd.{ServingEnd}
+use Rattle.server_main.specs.declared.run.serving.ServingEnd.TheVariants as servings
+use Rattle.server_main.specs.Rounds.Rounds.{AsksForOrders, ListenerAfterRounds, without_seat}
 use Rattle.server_main.specs.declared.work_end.WorkEnd.{WorkEnd}
 use Rattle.server_main.specs.declared.work_end.WorkEnd.TheVariants as works
 use Rattle.server_main.specs.ServedParts.{is_listener_work, is_plant_work, CountsRefused}

@@ -4,7 +4,7 @@ ghost use Rattle.std.specs.List.{list_any};
 ghost use Rattle.std.specs.Option.{option_or};
 ghost use Rattle.node_server.specs.Feeding.{is_source_fault};
 ghost use Rattle.node_server.specs.Ticking.{is_clock_fault};
-ghost use Rattle.server_rounds.specs.Rounds.{is_listener_end};
+ghost use Rattle.server_main.specs.Rounds.Rounds.{is_listener_end};
 ghost use Rattle.server_main.specs.ServedParts.{is_refused_work, is_listener_work};
 ghost use Rattle.server_main.specs.ServedParts.{has_source_fault, has_clock_fault, fails_outside};
 ghost use Rattle.server_main.specs.ServedParts.{full_of_rounds, full_of_work, full_of_fed};
@@ -17,11 +17,11 @@ ghost use Rattle.server_main.specs.ServedParts.{IsAllDone};
 ghost use Rattle.server_main.specs.Ending.{EndsPlain, EndsUnfull, EndsInside};
 
 use crate::fullness::Fullness;
+use crate::run::{FeedSeat, LinkSeat, Seats, ServingEnd, TickSeat};
 use crate::serve_end::ServeEnd;
 use crate::work_end::WorkEnd;
+use node_server::connection::ConnEnd;
 use node_server::{FeedEnd, TickEnd};
-use server_run::{FeedSeat, LinkSeat, Seats, ServingEnd, TickSeat};
-use tase_conn::ConnEnd;
 
 /// How a server ends whose work ended so, whose plant failed or not, and whose jobs ended as these
 /// seats say.

@@ -1,26 +1,26 @@
 //! What a server gathers once its work has ended.
 ghost use Rattle.std.specs.Prelude.{◌≡◌, true, List, [], ◌∷◌, ◌++◌, length, None, is_some};
 ghost use Rattle.std.specs.Arc.{arc_value};
-ghost use Rattle.outside_links.specs.Clocks.{ClockTold};
+ghost use Rattle.outside.specs.Links.Clocks.{ClockTold};
 ghost use Rattle.share_turn.specs.Public.{IsOf};
-ghost use Rattle.node_turn.specs.Logged.{turn_setup, turn_log};
+ghost use Rattle.node_server.specs.Turn.Logged.{turn_setup, turn_log};
 ghost use Rattle.node_server.specs.NodeCalls.{NodeSeat};
-ghost use Rattle.server_run.specs.Accepting.{accepting};
-ghost use Rattle.server_run.specs.Gathering.{TicksStarted, TicksGathered, behind_started};
-ghost use Rattle.server_run.specs.Gathering.{gathering};
-ghost use Rattle.server_run.specs.Gathering.{SeatClaim, Gathers, ClosesOver};
+ghost use Rattle.server_main.specs.Run.Accepting.{accepting};
+ghost use Rattle.server_main.specs.Run.Gathering.{TicksStarted, TicksGathered, behind_started};
+ghost use Rattle.server_main.specs.Run.Gathering.{gathering};
+ghost use Rattle.server_main.specs.Run.Gathering.{SeatClaim, Gathers, ClosesOver};
 ghost use Rattle.server_main.specs.Working.{InputsTold, telling, inputs_told, IsToGather};
 ghost use Rattle.server_main.specs.Gathered.{HasGathered};
 
 use crate::node_run::{NodeRun, Worked};
+use crate::run::{Gatherer, Seats, TickSeat, jobs_are_claimed};
 use crate::work_end::WorkEnd;
 use job_threads::ThreadSpawner;
-use node_core::Node;
-use node_turn::TurnNode;
+use node_server::jobs::NodeJob;
+use node_server::node::Node;
+use node_server::turn::TurnNode;
 use outside::Source;
-use outside_links::{Clock, Link, Listener};
-use server_jobs::NodeJob;
-use server_run::{Gatherer, Seats, TickSeat, jobs_are_claimed};
+use outside::links::{Clock, Link, Listener};
 use share_turn::Seat;
 use std::sync::Wait;
 use std::thread::Threads;

@@ -5,6 +5,9 @@ mod ending;
 mod fullness;
 mod gathered;
 mod node_run;
+pub mod plant;
+pub mod rounds;
+pub mod run;
 mod serve_end;
 mod server;
 mod stopping;
@@ -12,6 +15,7 @@ mod telling;
 mod work_end;
 
 pub use fullness::Fullness;
+pub use node_server as serving;
 pub use serve_end::ServeEnd;
 pub use server::{Served, Server};
 pub use work_end::WorkEnd;

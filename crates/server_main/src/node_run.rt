@@ -1,23 +1,23 @@
 //! The work of a server's own thread over a shared node.
 ghost use Rattle.std.specs.Prelude.{◌≡◌, []};
 ghost use Rattle.std.specs.Arc.{arc_value};
-ghost use Rattle.outside_links.specs.Listeners.{RetiredIsWithin};
-ghost use Rattle.server_run.specs.Accepting.{accepting};
-ghost use Rattle.server_run.specs.Beginning.{IsFirstSeat};
-ghost use Rattle.server_run.specs.Serving.{ServesBehind, KeepsServing};
-ghost use Rattle.server_run.specs.Rounds.{serving_state};
+ghost use Rattle.outside.specs.Links.Listeners.{RetiredIsWithin};
+ghost use Rattle.server_main.specs.Run.Accepting.{accepting};
+ghost use Rattle.server_main.specs.Run.Beginning.{IsFirstSeat};
+ghost use Rattle.server_main.specs.Run.Serving.{ServesBehind, KeepsServing};
+ghost use Rattle.server_main.specs.Run.Rounds.{serving_state};
 ghost use Rattle.server_main.specs.Working.{telling, inputs_told, no_links, WorksBehind};
 ghost use Rattle.server_main.specs.Working.{WorksToEnd};
 
+use crate::rounds::rounds_are_done;
+use crate::run::{Beginning, Begun, LinkSeats, ServingEnd, Starter};
 use crate::work_end::WorkEnd;
 use bilateral::Centre;
 use job_threads::ThreadSpawner;
-use node_turn::TurnNode;
+use node_server::jobs::NodeJob;
+use node_server::turn::TurnNode;
+use outside::links::{Clock, Listener};
 use outside::{Sink, Source};
-use outside_links::{Clock, Listener};
-use server_jobs::NodeJob;
-use server_rounds::rounds_are_done;
-use server_run::{Beginning, Begun, LinkSeats, ServingEnd, Starter};
 use share_turn::{Seat, Shared};
 use std::alloc::Global;
 use std::sync::{Arc, Wait};

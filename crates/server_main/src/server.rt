@@ -1,28 +1,28 @@
 //! A server of a centre's tables, over what lies outside it.
 ghost use Rattle.std.specs.Prelude.{◌≡◌, ◌≤◌, ◌^◌, [], None, option_map, IfSome, IfOk};
 ghost use Rattle.std.specs.Arc.{arc_value};
-ghost use Rattle.outside_links.specs.Listeners.{RetiredIsWithin};
-ghost use Rattle.node_turn.specs.Logged.{turn_setup, turn_log};
-ghost use Rattle.server_run.specs.Beginning.{IsFirstSeat};
+ghost use Rattle.outside.specs.Links.Listeners.{RetiredIsWithin};
+ghost use Rattle.node_server.specs.Turn.Logged.{turn_setup, turn_log};
+ghost use Rattle.server_main.specs.Run.Beginning.{IsFirstSeat};
 ghost use Rattle.server_main.specs.Serving.{server_told, IsServed};
-ghost use Rattle.server_rounds.specs.Rounds.{is_plant_end};
+ghost use Rattle.server_main.specs.Rounds.Rounds.{is_plant_end};
 ghost use Rattle.server_main.specs.ServedParts.{is_plant_work};
 
 use crate::ending::serve_end;
 use crate::gathered::Gathered;
 use crate::node_run::{Inputs, NodeRun};
+use crate::plant::orders_are_told_once;
+use crate::run::{LinkSeats, Seats, ServingEnd, share_node};
 use crate::serve_end::ServeEnd;
 use crate::telling::tell_left;
 use crate::work_end::WorkEnd;
 use bilateral::Centre;
 use job_threads::ThreadSpawner;
-use node_core::Node;
-use node_turn::TurnNode;
+use node_server::jobs::NodeJob;
+use node_server::node::Node;
+use node_server::turn::TurnNode;
+use outside::links::{Clock, Listener};
 use outside::{Sink, Source};
-use outside_links::{Clock, Listener};
-use plant_orders::orders_are_told_once;
-use server_jobs::NodeJob;
-use server_run::{LinkSeats, Seats, ServingEnd, share_node};
 use share_turn::{Seat, Shared};
 use std::alloc::{AllocError, Global};
 use std::sync::{Arc, Wait};

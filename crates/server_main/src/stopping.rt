@@ -6,9 +6,9 @@ ghost use Rattle.node_server.specs.NodeCalls.{NodeCall, CallsNode, AsksStop};
 ghost use Rattle.server_main.specs.Working.{StopsNode};
 
 use crate::node_run::NodeRun;
+use crate::run::ServingEnd;
 use crate::work_end::WorkEnd;
-use node_turn::TurnNode;
-use server_run::ServingEnd;
+use node_server::turn::TurnNode;
 use share_turn::Seat;
 use std::sync::Wait;
 use tase_views::{Event, EventKind};

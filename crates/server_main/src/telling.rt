@@ -1,12 +1,12 @@
 //! The orders that are left at the end of a server.
 ghost use Rattle.std.specs.Prelude.{◌≡◌};
-ghost use Rattle.node_turn.specs.Logged.{turn_log};
+ghost use Rattle.node_server.specs.Turn.Logged.{turn_log};
 ghost use Rattle.server_main.specs.Gathered.{TellsLeft};
 
 use bilateral::Centre;
-use node_core::Node;
-use order_text::write_orders;
+use node_server::node::Node;
 use outside::Sink;
+use texts::orders::write_orders;
 
 /// Tells the plant the orders that are left of a node, unless a write failed before. Whether one
 /// failed then or now.

@@ -1,5 +1,5 @@
 //! How the work of a server ended.
-use server_run::ServingEnd;
+use crate::run::ServingEnd;
 
 /// How the work of a server ended, before its jobs were gathered.
 #[derive(Clone, Copy, Debug, PartialEq, Eq)]

@@ -7,11 +7,11 @@ use Rattle.tpkt_cotp.specs.Streams.{Message}
 use Rattle.tpkt_cotp.specs.Lines as lines
 use Rattle.tpkt_cotp.specs.Lines.{Line}
 use Rattle.tpkt_cotp.specs.Written.{confirm_octets, wire}
-use Rattle.stack_messages.specs.declared.expecting.Side.{Side}
-use Rattle.stack_messages.specs.declared.fault.StackFault.{StackFault}
-use Rattle.stack_wire.specs.Setups.{cut_size}
-use Rattle.stack_wire.specs.Tsdus.{connect_tsdu}
-use Rattle.stack_wire.specs.declared.setup.AssociationSetup.{AssociationSetup}
+use Rattle.stack_assoc.specs.declared.messages.expecting.Side.{Side}
+use Rattle.stack_assoc.specs.declared.messages.fault.StackFault.{StackFault}
+use Rattle.stack_assoc.specs.Wire.Setups.{cut_size}
+use Rattle.stack_assoc.specs.Wire.Tsdus.{connect_tsdu}
+use Rattle.stack_assoc.specs.declared.wire.setup.AssociationSetup.{AssociationSetup}
 use Rattle.stack_assoc.specs.declared.milestones.Milestones.{Milestones}
 use Rattle.stack_assoc.specs.declared.end_state.EndState.{EndState}
 use Rattle.stack_assoc.specs.declared.taken.Opening.{Opening}

@@ -1,6 +1,6 @@
 -- Octets behind a rule that was broken change nothing.
 use Rattle.std.proofs.Common.{◌≡◌, ℕ, List, ◌++◌, false, Option, Some, None, is_none, MatchOption}
-use Rattle.stack_messages.specs.declared.fault.StackFault.{StackFault}
+use Rattle.stack_assoc.specs.declared.messages.fault.StackFault.{StackFault}
 use Rattle.stack_assoc.specs.Arrivals.{Arrival, Role}
 use Rattle.stack_assoc.specs.Tellings.{StopsTelling}
 use Rattle.stack_assoc.specs.Courses.{Course, ReadsMessages, CourseStands}

@@ -5,11 +5,11 @@ use Rattle.std.proofs.Common.{◌∙◌, arith}
 use Rattle.std.specs.List.{list_any}
 use Rattle.std.proofs.lemmas.Bool.{le-leb}
 use Rattle.std.proofs.lemmas.List.{length-append}
-use Rattle.stack_messages.specs.declared.expecting.Expecting.{Expecting}
-use Rattle.stack_messages.specs.declared.expecting.Phase.{Phase}
-use Rattle.stack_messages.specs.declared.expecting.Side.{Side}
-use Rattle.stack_messages.specs.declared.heard.Connecting.{Connecting}
-use Rattle.stack_wire.specs.declared.setup.AssociationSetup.{AssociationSetup}
+use Rattle.stack_assoc.specs.declared.messages.expecting.Expecting.{Expecting}
+use Rattle.stack_assoc.specs.declared.messages.expecting.Phase.{Phase}
+use Rattle.stack_assoc.specs.declared.messages.expecting.Side.{Side}
+use Rattle.stack_assoc.specs.declared.messages.heard.Connecting.{Connecting}
+use Rattle.stack_assoc.specs.declared.wire.setup.AssociationSetup.{AssociationSetup}
 use Rattle.stack_assoc.specs.declared.milestones.Milestones.{Milestones}
 use Rattle.stack_assoc.specs.Arrivals.{Arrival, Role, called, calling, side_of, or_else, first_in, size_in}
 use Rattle.stack_assoc.specs.Arrivals.{confirm_in, connect_in, accept_in, is_refuse, is_conclude}

@@ -16,3 +16,6 @@ pub mod Modest
 pub mod Standings
 pub mod Holdings
 pub mod Enough
+pub mod OfWire
+pub mod OfMessages
+pub mod OfListing

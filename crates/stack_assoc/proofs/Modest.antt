@@ -15,21 +15,21 @@ use Rattle.acse_assoc.specs.declared.apdu.Apdu.{Apdu}
 use Rattle.acse_assoc.specs.declared.apdu.Apdu.TheVariants as apdus
 use Rattle.acse_assoc.specs.declared.request.AssociateRequest.{AssociateRequest}
 use Rattle.mms_services.specs.declared.initiate.Initiate.{Initiate}
-use Rattle.stack_messages.specs.declared.expecting.Expecting.{Expecting}
-use Rattle.stack_messages.specs.declared.heard.Heard.{Heard}
-use Rattle.stack_messages.specs.declared.heard.Heard.TheVariants as heards
-use Rattle.stack_messages.specs.declared.fault.StackFault.{StackFault}
-use Rattle.stack_messages.specs.declared.fault.Layer.TheVariants as layers
-use Rattle.stack_messages.specs.Meanings.{Meaning, inside, says_just, says_some, says_nothing}
-use Rattle.stack_messages.specs.Meanings.{where_allowed}
+use Rattle.stack_assoc.specs.declared.messages.expecting.Expecting.{Expecting}
+use Rattle.stack_assoc.specs.declared.messages.heard.Heard.{Heard}
+use Rattle.stack_assoc.specs.declared.messages.heard.Heard.TheVariants as heards
+use Rattle.stack_assoc.specs.declared.messages.fault.StackFault.{StackFault}
+use Rattle.stack_assoc.specs.declared.messages.fault.Layer.TheVariants as layers
+use Rattle.stack_assoc.specs.Messages.Meanings.{Meaning, inside, says_just, says_some, says_nothing}
+use Rattle.stack_assoc.specs.Messages.Meanings.{where_allowed}
 use Rattle.ber_values.specs.declared.external.External.{External}
 use Rattle.std.specs.Prelude.{option_map}
-use Rattle.stack_messages.specs.Layers.{octets_at, out_of_order, ppdu_at, apdu_at, pdu_at, spdu_of, in_layer}
-use Rattle.stack_messages.specs.Turns.{spdu_may_come, offered_by}
-use Rattle.stack_messages.specs.Setting.{connect_at, accept_at, offers_in, aarq_in, initiate_in, request_expected}
-use Rattle.stack_messages.specs.Setting.{connecting, initiate_in_pdu, results_in, aare_in, user_in}
-use Rattle.stack_messages.specs.Setting.{initiated_in, accepting, initiated_of, answer_expected}
-use Rattle.stack_messages.specs.Messages.{message, said_by, said_in_turn, carry_at, user_data_in, data_at}
+use Rattle.stack_assoc.specs.Messages.Layers.{octets_at, out_of_order, ppdu_at, apdu_at, pdu_at, spdu_of, in_layer}
+use Rattle.stack_assoc.specs.Messages.Turns.{spdu_may_come, offered_by}
+use Rattle.stack_assoc.specs.Messages.Setting.{connect_at, accept_at, offers_in, aarq_in, initiate_in, request_expected}
+use Rattle.stack_assoc.specs.Messages.Setting.{connecting, initiate_in_pdu, results_in, aare_in, user_in}
+use Rattle.stack_assoc.specs.Messages.Setting.{initiated_in, accepting, initiated_of, answer_expected}
+use Rattle.stack_assoc.specs.Messages.Messages.{message, said_by, said_in_turn, carry_at, user_data_in, data_at}
 use Rattle.presentation_profile.specs.Agreements.{acse_name, mms_name, is_of, offers_of, acse_among}
 use Rattle.stack_assoc.specs.Expectations.{id_or}
 use Rattle.stack_assoc.specs.Steps.{IsModest}

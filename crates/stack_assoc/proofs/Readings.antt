@@ -5,11 +5,11 @@ use Rattle.tpkt_cotp.specs.declared.tpdu.ConnectRequest.{ConnectRequest}
 use Rattle.tpkt_cotp.specs.declared.tpdu.ConnectConfirm.{ConnectConfirm}
 use Rattle.tpkt_cotp.specs.Streams.{Message, asks, confirms, tsdu}
 use Rattle.tpkt_cotp.specs.Streams as transport
-use Rattle.stack_messages.specs.declared.expecting.Expecting.{Expecting}
-use Rattle.stack_messages.specs.declared.fault.StackFault.{StackFault}
-use Rattle.stack_messages.specs.declared.heard.Heard.{Heard}
-use Rattle.stack_messages.specs.Meanings.{Meaning, HasOneMeaning}
-use Rattle.stack_messages.specs.Messages.{message}
+use Rattle.stack_assoc.specs.declared.messages.expecting.Expecting.{Expecting}
+use Rattle.stack_assoc.specs.declared.messages.fault.StackFault.{StackFault}
+use Rattle.stack_assoc.specs.declared.messages.heard.Heard.{Heard}
+use Rattle.stack_assoc.specs.Messages.Meanings.{Meaning, HasOneMeaning}
+use Rattle.stack_assoc.specs.Messages.Messages.{message}
 use Rattle.stack_assoc.specs.Arrivals.{Arrival, asked, confirmed, gone, heard, Role}
 use Rattle.stack_assoc.specs.Expectations.{expecting_after}
 use Rattle.stack_assoc.specs.Tellings.{TellsNext, BreaksNext}

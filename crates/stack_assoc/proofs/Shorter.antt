@@ -2,7 +2,7 @@
 use Rattle.std.proofs.Common.{◌≡◌, ℕ, ◌+◌, ◌<◌, ◌≤◌, length, Option, Some, None, IfOk, OnSome}
 use Rattle.std.proofs.Common.{subst, arith, refl}
 use Rattle.tpkt_cotp.specs.Streams.{Message}
-use Rattle.stack_messages.specs.declared.expecting.Expecting.{Expecting}
+use Rattle.stack_assoc.specs.declared.messages.expecting.Expecting.{Expecting}
 use Rattle.stack_assoc.specs.declared.taken.Came.{Came}
 use Rattle.stack_assoc.specs.declared.taken.Came.TheVariants as cames
 use Rattle.stack_assoc.specs.declared.taken.Said.{Said}

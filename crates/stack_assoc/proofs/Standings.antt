@@ -2,11 +2,11 @@
 use Rattle.std.proofs.Common.{◌≡◌, ℕ, Bool, true, false, List, Option, Some, None, refl, sym, ap, subst, ◌∙◌}
 use Rattle.std.proofs.Common.{inl, inr, if◌then◌else◌}
 use Rattle.mms_services.specs.declared.initiate.Initiate.{Initiate}
-use Rattle.stack_messages.specs.declared.expecting.Side.{Side}
-use Rattle.stack_messages.specs.declared.expecting.Side.TheVariants as sides
-use Rattle.stack_messages.specs.declared.fault.StackFault.{StackFault}
-use Rattle.stack_messages.specs.declared.heard.Heard.{Heard}
-use Rattle.stack_messages.specs.declared.heard.Heard.TheVariants as heards
+use Rattle.stack_assoc.specs.declared.messages.expecting.Side.{Side}
+use Rattle.stack_assoc.specs.declared.messages.expecting.Side.TheVariants as sides
+use Rattle.stack_assoc.specs.declared.messages.fault.StackFault.{StackFault}
+use Rattle.stack_assoc.specs.declared.messages.heard.Heard.{Heard}
+use Rattle.stack_assoc.specs.declared.messages.heard.Heard.TheVariants as heards
 use Rattle.stack_assoc.specs.declared.input.StackIn.TheVariants as inputs
 use Rattle.stack_assoc.specs.declared.input.StackState.TheVariants as states
 use Rattle.stack_assoc.specs.declared.end_state.EndState.{EndState}

@@ -7,8 +7,8 @@ use Rattle.tpkt_cotp.specs.Streams as streams
 use Rattle.tpkt_cotp.specs.Lines as lines
 use Rattle.tpkt_cotp.specs.Lines.{Line}
 use Rattle.tpkt_cotp.specs.declared.fault.CotpFault.{CotpFault}
-use Rattle.stack_messages.specs.declared.fault.StackFault.{StackFault}
-use Rattle.stack_wire.specs.declared.setup.AssociationSetup.{AssociationSetup}
+use Rattle.stack_assoc.specs.declared.messages.fault.StackFault.{StackFault}
+use Rattle.stack_assoc.specs.declared.wire.setup.AssociationSetup.{AssociationSetup}
 use Rattle.stack_assoc.specs.declared.milestones.Milestones.{Milestones}
 use Rattle.stack_assoc.specs.declared.taken.Opening.{Opening}
 use Rattle.stack_assoc.specs.declared.taken.Came.{Came}

@@ -8,7 +8,7 @@ use Rattle.tpkt_cotp.specs.Streams.{Message, SpellsMessages}
 use Rattle.tpkt_cotp.proofs.Always as below
 use Rattle.tpkt_cotp.proofs.OneStream as once
 use Rattle.tpkt_cotp.proofs.Answering.{stops_more}
-use Rattle.stack_messages.specs.declared.fault.StackFault.{StackFault}
+use Rattle.stack_assoc.specs.declared.messages.fault.StackFault.{StackFault}
 use Rattle.stack_assoc.specs.Fronts.{StartsWith}
 use Rattle.stack_assoc.specs.Arrivals.{Arrival, Role, end_of}
 use Rattle.stack_assoc.specs.Tellings.{TellsNext, BreaksNext, Tell, Tells, StopsBelow, StopsAbove}

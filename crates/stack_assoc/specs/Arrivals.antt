@@ -6,12 +6,12 @@ use Rattle.tpkt_cotp.specs.declared.turn.Role as transport
 use Rattle.tpkt_cotp.specs.declared.turn.Role.TheVariants as ends
 use Rattle.mms_services.specs.declared.pdu.MmsPdu.{MmsPdu}
 use Rattle.mms_services.specs.declared.pdu.MmsPdu.TheVariants as pdus
-use Rattle.stack_messages.specs.declared.expecting.Side.{Side}
-use Rattle.stack_messages.specs.declared.expecting.Side.TheVariants as sides
-use Rattle.stack_messages.specs.declared.heard.Connecting.{Connecting}
-use Rattle.stack_messages.specs.declared.heard.Accepting.{Accepting}
-use Rattle.stack_messages.specs.declared.heard.Heard.{Heard}
-use Rattle.stack_messages.specs.declared.heard.Heard.TheVariants as heards
+use Rattle.stack_assoc.specs.declared.messages.expecting.Side.{Side}
+use Rattle.stack_assoc.specs.declared.messages.expecting.Side.TheVariants as sides
+use Rattle.stack_assoc.specs.declared.messages.heard.Connecting.{Connecting}
+use Rattle.stack_assoc.specs.declared.messages.heard.Accepting.{Accepting}
+use Rattle.stack_assoc.specs.declared.messages.heard.Heard.{Heard}
+use Rattle.stack_assoc.specs.declared.messages.heard.Heard.TheVariants as heards
 
 -- what has come in one message
 pub data Arrival : Type 0 where

@@ -3,13 +3,13 @@
 use Rattle.std.specs.Prelude.{ℕ, Bool, false, not, ◌&&◌, List, [], Option, Some, None, is_some}
 use Rattle.std.specs.Prelude.{nat_le, length, if◌then◌else◌}
 use Rattle.std.specs.List.{list_any}
-use Rattle.stack_wire.specs.declared.setup.AssociationSetup.{AssociationSetup}
-use Rattle.stack_wire.specs.Setups.{cut_size}
+use Rattle.stack_assoc.specs.declared.wire.setup.AssociationSetup.{AssociationSetup}
+use Rattle.stack_assoc.specs.Wire.Setups.{cut_size}
 use Rattle.presentation_profile.specs.Agreements.{acse_of, mms_of, results_of}
-use Rattle.stack_messages.specs.declared.expecting.Expecting.{Expecting}
-use Rattle.stack_messages.specs.declared.expecting.Phase.{Phase}
-use Rattle.stack_messages.specs.declared.expecting.Phase.TheVariants as phases
-use Rattle.stack_messages.specs.declared.heard.Connecting.{Connecting}
+use Rattle.stack_assoc.specs.declared.messages.expecting.Expecting.{Expecting}
+use Rattle.stack_assoc.specs.declared.messages.expecting.Phase.{Phase}
+use Rattle.stack_assoc.specs.declared.messages.expecting.Phase.TheVariants as phases
+use Rattle.stack_assoc.specs.declared.messages.heard.Connecting.{Connecting}
 use Rattle.stack_assoc.specs.Arrivals.{Arrival, Role, called, calling, side_of, first_in}
 use Rattle.stack_assoc.specs.Arrivals.{connect_in, accept_in, confirm_in, size_in, is_refuse}
 use Rattle.stack_assoc.specs.Arrivals.{is_conclude, is_concluded}

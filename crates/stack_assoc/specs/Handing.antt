@@ -7,11 +7,11 @@ use Rattle.presentation_profile.specs.Agreements.{acse_of}
 use Rattle.acse_assoc.specs.Writing.{mms_context}
 use Rattle.mms_services.specs.declared.initiate.Initiate.{Initiate}
 use Rattle.mms_services.specs.declared.initiate.TheConstants.{LEAST_DETAIL}
-use Rattle.stack_messages.specs.declared.heard.Connecting.{Connecting}
-use Rattle.stack_messages.specs.declared.heard.Heard.{Heard}
-use Rattle.stack_messages.specs.declared.heard.Heard.TheVariants as heards
-use Rattle.stack_wire.specs.Setups.{cut_size}
-use Rattle.stack_wire.specs.Tsdus.{connect_tsdu}
+use Rattle.stack_assoc.specs.declared.messages.heard.Connecting.{Connecting}
+use Rattle.stack_assoc.specs.declared.messages.heard.Heard.{Heard}
+use Rattle.stack_assoc.specs.declared.messages.heard.Heard.TheVariants as heards
+use Rattle.stack_assoc.specs.Wire.Setups.{cut_size}
+use Rattle.stack_assoc.specs.Wire.Tsdus.{connect_tsdu}
 use Rattle.stack_assoc.specs.declared.input.StackIn.{StackIn}
 use Rattle.stack_assoc.specs.declared.input.StackIn.TheVariants as inputs
 use Rattle.stack_assoc.specs.Arrivals.{Arrival, asked, confirmed, gone, heard, Role}

@@ -9,3 +9,6 @@ pub mod Taking
 pub mod Courses
 pub mod Steps
 pub mod Saying
+pub mod Wire
+pub mod Messages
+pub mod Listing

@@ -1,10 +1,10 @@
 -- What an end is once it has said something.
 use Rattle.std.specs.Prelude.{ℕ, Bool, true, false, List, length, Option, Some, None}
 use Rattle.mms_services.specs.declared.pdu.MmsPdu.{MmsPdu}
-use Rattle.stack_messages.specs.declared.expecting.Side.{Side}
-use Rattle.stack_messages.specs.declared.expecting.Side.TheVariants as sides
-use Rattle.stack_messages.specs.declared.fault.StackFault.{StackFault}
-use Rattle.stack_wire.specs.Tsdus.{finish_tsdu, release_tsdu}
+use Rattle.stack_assoc.specs.declared.messages.expecting.Side.{Side}
+use Rattle.stack_assoc.specs.declared.messages.expecting.Side.TheVariants as sides
+use Rattle.stack_assoc.specs.declared.messages.fault.StackFault.{StackFault}
+use Rattle.stack_assoc.specs.Wire.Tsdus.{finish_tsdu, release_tsdu}
 use Rattle.stack_assoc.specs.declared.milestones.Milestones.{Milestones}
 use Rattle.stack_assoc.specs.declared.end_state.EndState.{EndState}
 use Rattle.stack_assoc.specs.declared.end_state.EndState.TheVariants as standings

@@ -4,14 +4,14 @@ use Rattle.tpkt_cotp.specs.Streams as transport
 use Rattle.tpkt_cotp.specs.Streams.{Message, asks, confirms, tsdu}
 use Rattle.tpkt_cotp.specs.Written.{confirm_octets, wire}
 use Rattle.presentation_profile.specs.Agreements.{results_of}
-use Rattle.stack_messages.specs.declared.expecting.Expecting.{Expecting}
-use Rattle.stack_messages.specs.declared.expecting.Side.{Side}
-use Rattle.stack_messages.specs.declared.expecting.Side.TheVariants as sides
-use Rattle.stack_messages.specs.declared.heard.Heard.{Heard}
-use Rattle.stack_messages.specs.declared.heard.Heard.TheVariants as heards
-use Rattle.stack_messages.specs.Meanings.{Meaning}
-use Rattle.stack_messages.specs.Messages.{message}
-use Rattle.stack_wire.specs.Tsdus.{connect_tsdu}
+use Rattle.stack_assoc.specs.declared.messages.expecting.Expecting.{Expecting}
+use Rattle.stack_assoc.specs.declared.messages.expecting.Side.{Side}
+use Rattle.stack_assoc.specs.declared.messages.expecting.Side.TheVariants as sides
+use Rattle.stack_assoc.specs.declared.messages.heard.Heard.{Heard}
+use Rattle.stack_assoc.specs.declared.messages.heard.Heard.TheVariants as heards
+use Rattle.stack_assoc.specs.Messages.Meanings.{Meaning}
+use Rattle.stack_assoc.specs.Messages.Messages.{message}
+use Rattle.stack_assoc.specs.Wire.Tsdus.{connect_tsdu}
 use Rattle.stack_assoc.specs.declared.taken.Opening.{Opening}
 use Rattle.stack_assoc.specs.declared.taken.Opening.TheVariants as openings
 use Rattle.stack_assoc.specs.declared.taken.Following.{Following}

@@ -4,9 +4,9 @@ use Rattle.std.specs.Prelude.{◌≡◌, ℕ, List, [], ◌∷◌, ◌++◌, ◌
 use Rattle.tpkt_cotp.specs.declared.fault.CotpFault.{CotpFault}
 use Rattle.tpkt_cotp.specs.Streams as transport
 use Rattle.tpkt_cotp.specs.Streams.{Message, asks, confirms, tsdu}
-use Rattle.stack_messages.specs.declared.fault.Layer.TheVariants as layers
-use Rattle.stack_messages.specs.declared.fault.StackFault.{StackFault}
-use Rattle.stack_messages.specs.Messages.{message}
+use Rattle.stack_assoc.specs.declared.messages.fault.Layer.TheVariants as layers
+use Rattle.stack_assoc.specs.declared.messages.fault.StackFault.{StackFault}
+use Rattle.stack_assoc.specs.Messages.Messages.{message}
 use Rattle.stack_assoc.specs.Fronts.{StartsWith}
 use Rattle.stack_assoc.specs.InTurn.{SpellInTurn}
 use Rattle.stack_assoc.specs.Arrivals.{Arrival, asked, confirmed, gone, heard, Role, end_of}

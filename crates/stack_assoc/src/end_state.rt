@@ -6,8 +6,8 @@ ghost use Rattle.stack_assoc.specs.Handing.{is_offer};
 ghost use Rattle.stack_assoc.specs.Arrivals.{heard};
 
 use crate::input::StackState;
+use crate::messages::Heard;
 use crate::offer::is_offer;
-use stack_messages::Heard;
 
 /// How far an end has come with the offer and the association.
 #[derive(Clone, Copy, Debug, PartialEq, Eq)]

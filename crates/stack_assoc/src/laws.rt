@@ -1,6 +1,6 @@
 //! What holds of all streams.
 ghost use Rattle.std.specs.Prelude.{◌≡◌, ℕ, List, ◌++◌, ◌⊎◌};
-ghost use Rattle.stack_messages.specs.declared.fault.StackFault.{StackFault};
+ghost use Rattle.stack_assoc.specs.declared.messages.fault.StackFault.{StackFault};
 ghost use Rattle.stack_assoc.specs.Arrivals.{Arrival, Role};
 ghost use Rattle.stack_assoc.specs.Tellings.{Tells, StopsTelling};
 ghost use Rattle.mms_services.specs.declared.pdu.MmsPdu.{MmsPdu};
@@ -9,7 +9,7 @@ ghost use Rattle.stack_assoc.specs.declared.end_state.EndState.{EndState};
 ghost use Rattle.stack_assoc.specs.Courses.{Course, CourseStands, HasToldAll, stack_state_of};
 ghost use Rattle.stack_assoc.specs.Saying.{with_standing, with_said, role_said};
 
-use stack_messages::messages_have_one_reading;
+use crate::messages::messages_have_one_reading;
 
 /// Octets tell messages and a rest, or stop at a fault: one of the two, and in one way.
 pub fn one_reading()

@@ -4,6 +4,8 @@
 mod end_state;
 mod input;
 mod laws;
+pub mod listing;
+pub mod messages;
 mod milestones;
 mod offer;
 mod saying;
@@ -11,6 +13,7 @@ mod stack;
 mod taken;
 mod taking;
 mod telling;
+pub mod wire;
 
 pub use input::{StackIn, StackState};
 pub use laws::{cuts_change_nothing, one_reading, saying_takes_nothing, what_was_told_stays};

@@ -5,9 +5,9 @@ ghost use Rattle.stack_assoc.specs.Knowing.{called_phase, calling_phase};
 ghost use Rattle.stack_assoc.specs.Taking.{opening_told};
 ghost use Rattle.stack_assoc.specs.Arrivals.{heard};
 
+use crate::messages::{Expecting, Heard, Phase, Side};
 use crate::taken::Opening;
 use mms_services::MmsPdu;
-use stack_messages::{Expecting, Heard, Phase, Side};
 
 /// What has come, as far as it decides what may come now.
 #[derive(Clone, Copy)]

@@ -3,10 +3,10 @@ ghost use Rattle.std.specs.Prelude.{◌≡◌, not, bytes_eq};
 ghost use Rattle.acse_assoc.specs.Writing.{mms_context};
 ghost use Rattle.stack_assoc.specs.Handing.{is_offer, is_too_little};
 
+use crate::messages::Connecting;
+use crate::wire::MMS_CONTEXT;
 use mms_services::{Initiate, negotiate};
 use presentation_profile::acse_id;
-use stack_messages::Connecting;
-use stack_wire::MMS_CONTEXT;
 
 /// Whether enough is offered of each parameter.
 fn is_enough(initiate: &Initiate) -> bool

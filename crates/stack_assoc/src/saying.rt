@@ -3,7 +3,7 @@ ghost use Rattle.std.specs.Prelude.{◌≡◌, ◌+◌, ◌≤◌, ◌++◌, tru
 ghost use Rattle.tpkt_cotp.specs.Written.{wire};
 ghost use Rattle.mms_services.specs.Initiates.{IsFullInitiate};
 ghost use Rattle.mms_services.specs.PduOctets.{pdu_len, IsWritablePdu};
-ghost use Rattle.stack_wire.specs.Tsdus.{accept_tsdu, refusal_tsdu, data_tsdu, abort_tsdu};
+ghost use Rattle.stack_assoc.specs.Wire.Tsdus.{accept_tsdu, refusal_tsdu, data_tsdu, abort_tsdu};
 ghost use Rattle.stack_assoc.specs.declared.input.StackState.TheVariants as states;
 ghost use Rattle.stack_assoc.specs.declared.end_state.EndState.TheVariants as standings;
 ghost use Rattle.stack_assoc.specs.Courses.{is_offered, is_accepted, stack_state_of};
@@ -11,12 +11,12 @@ ghost use Rattle.stack_assoc.specs.Saying.{with_standing, with_said, may_release
 ghost use Rattle.stack_assoc.specs.Saying.{course_released, release_said};
 
 use crate::end_state::EndState;
+use crate::messages::Side;
 use crate::stack::Stack;
-use mms_services::{Initiate, MmsPdu};
-use stack_messages::Side;
-use stack_wire::{
+use crate::wire::{
     write_abort, write_accept, write_data, write_finish, write_refusal, write_release,
 };
+use mms_services::{Initiate, MmsPdu};
 use std::alloc::AllocError;
 
 impl Stack {

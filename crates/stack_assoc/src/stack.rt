@@ -1,11 +1,11 @@
 //! An end of an association over a stream that comes in any pieces: octets in, messages out.
 ghost use Rattle.std.specs.Prelude.{◌≡◌, ℕ, ◌+◌, ◌-◌, ◌≤◌, ◌<◌, List, [], ◌++◌, length, None, Some};
 ghost use Rattle.std.specs.Prelude.{IfOk, OnOk, OnErr, OnSome, Ok, Err, false, option_map};
-ghost use Rattle.stack_messages.specs.declared.fault.StackFault.{StackFault};
+ghost use Rattle.stack_assoc.specs.declared.messages.fault.StackFault.{StackFault};
 ghost use Rattle.tpkt_cotp.specs.declared.limits.TheConstants.{PIECE_LIMIT};
 ghost use Rattle.tpkt_cotp.specs.declared.limits.TheConstants.{TPKT_LIMIT, TSDU_LIMIT};
 ghost use Rattle.tpkt_cotp.specs.Written.{connection_request_octets};
-ghost use Rattle.stack_wire.specs.Setups.{IsSetup};
+ghost use Rattle.stack_assoc.specs.Wire.Setups.{IsSetup};
 ghost use Rattle.stack_assoc.specs.declared.input.StackState.TheVariants as states;
 ghost use Rattle.stack_assoc.specs.Arrivals.{Arrival, Role, called, calling};
 ghost use Rattle.stack_assoc.specs.Expectations.{setup_by};
@@ -17,12 +17,12 @@ ghost use Rattle.stack_assoc.specs.Steps.{IsNew, left_of};
 
 use crate::end_state::EndState;
 use crate::input::{StackIn, StackState};
+use crate::messages::{Side, StackFault};
 use crate::milestones::Milestones;
 use crate::taken::{Following, Opening};
+use crate::wire::AssociationSetup;
 use ber_values::Oid;
 use presentation_profile::Results;
-use stack_messages::{Side, StackFault};
-use stack_wire::AssociationSetup;
 use std::alloc::{AllocError, Global};
 use std::marker::Model;
 use tpkt_cotp::{Transport, write_cr};
@@ -44,7 +44,7 @@ pub struct Stack {
 
 impl Model for Stack {
     ghost use Rattle.std.specs.Prelude.{◌≤◌, option_map};
-    ghost use Rattle.stack_wire.specs.Setups.{IsSetup};
+    ghost use Rattle.stack_assoc.specs.Wire.Setups.{IsSetup};
     ghost use Rattle.stack_assoc.specs.Taking.{following_seen};
     ghost use Rattle.stack_assoc.specs.Courses.{Course, IsAlone};
 

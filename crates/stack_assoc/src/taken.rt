@@ -4,8 +4,8 @@ ghost use Rattle.tpkt_cotp.specs.Sound.{IsSoundMessage, IsSize};
 ghost use Rattle.stack_assoc.specs.Arrivals.{size_in};
 ghost use Rattle.stack_assoc.specs.Taking.{results_heard, opening_seen, opening_told};
 
+use crate::messages::{Heard, StackFault};
 use presentation_profile::{Results, results_of};
-use stack_messages::{Heard, StackFault};
 use std::alloc::{AllocError, Global};
 use tpkt_cotp::{ConnectConfirm, ConnectRequest};
 

@@ -4,17 +4,17 @@ ghost use Rattle.tpkt_cotp.specs.Sound.{IsSoundMessage};
 ghost use Rattle.stack_assoc.specs.Arrivals.{Arrival, Role};
 ghost use Rattle.stack_assoc.specs.Tellings.{transport_fault};
 ghost use Rattle.stack_assoc.specs.Knowing.{expecting_by};
-ghost use Rattle.stack_messages.specs.Messages.{message};
+ghost use Rattle.stack_assoc.specs.Messages.Messages.{message};
 ghost use Rattle.stack_assoc.specs.Taking.{opening_seen, owed_octets, SaysMessage, SaysOf};
 ghost use Rattle.stack_assoc.specs.Courses.{CourseStands};
 ghost use Rattle.stack_assoc.specs.Steps.{opened_with, TakesOne, TakesNext, IsTellable};
 ghost use Rattle.stack_assoc.specs.Steps.{Untold, FewerLeft, IsEmpty};
 ghost use Rattle.stack_assoc.specs.Steps.{IsBegun};
 
+use crate::messages::{Layer, Side, StackFault, read_message};
 use crate::stack::Stack;
 use crate::taken::{Came, Following, Opening, Said, results_heard};
-use stack_messages::{Layer, Side, StackFault, read_message};
-use stack_wire::{cut_size, write_connect};
+use crate::wire::{cut_size, write_connect};
 use std::alloc::AllocError;
 use tpkt_cotp::{CotpFault, TransportIn, write_cc};
 

@@ -1,7 +1,7 @@
 //! What an end makes of a message that was read.
 ghost use Rattle.std.specs.Prelude.{◌≡◌, Some, Ok, OnOk, OnErr, IsErr};
 ghost use Rattle.stack_assoc.specs.Knowing.{fixed_by};
-ghost use Rattle.stack_messages.specs.declared.heard.Heard.TheVariants as heards;
+ghost use Rattle.stack_assoc.specs.declared.messages.heard.Heard.TheVariants as heards;
 ghost use Rattle.stack_assoc.specs.Handing.{input_heard};
 ghost use Rattle.stack_assoc.specs.Taking.{results_heard};
 ghost use Rattle.stack_assoc.specs.Steps.{IsModest, IsTellable, told_heard, told_with, told_answer};
@@ -9,12 +9,12 @@ ghost use Rattle.stack_assoc.specs.Steps.{left_with, left_answer};
 
 use crate::end_state::EndState;
 use crate::input::StackIn;
+use crate::messages::{Connecting, Heard, StackFault};
 use crate::offer::is_offer;
 use crate::stack::Stack;
 use crate::taken::{Came, Said};
+use crate::wire::{OWN_ACSE, OWN_MMS};
 use presentation_profile::{Results, acse_id, mms_id};
-use stack_messages::{Connecting, Heard, StackFault};
-use stack_wire::{OWN_ACSE, OWN_MMS};
 use std::alloc::AllocError;
 
 impl Stack {

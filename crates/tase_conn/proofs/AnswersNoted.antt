@@ -19,11 +19,11 @@ use Rattle.mms_services.specs.declared.pdu.MmsPdu.{MmsPdu}
 use Rattle.mms_services.specs.declared.pdu.MmsPdu.TheVariants as pdus
 use Rattle.mms_services.specs.Initiates.{IsFullInitiate}
 use Rattle.mms_services.specs.Negotiations.{granted_of}
-use Rattle.stack_messages.specs.declared.fault.StackFault.{StackFault}
-use Rattle.stack_messages.specs.declared.expecting.Side.{Side}
-use Rattle.stack_messages.specs.declared.expecting.Side.TheVariants as sides
-use Rattle.stack_messages.specs.declared.heard.Connecting.{Connecting}
-use Rattle.stack_wire.specs.Tsdus.{accept_tsdu}
+use Rattle.stack_assoc.specs.declared.messages.fault.StackFault.{StackFault}
+use Rattle.stack_assoc.specs.declared.messages.expecting.Side.{Side}
+use Rattle.stack_assoc.specs.declared.messages.expecting.Side.TheVariants as sides
+use Rattle.stack_assoc.specs.declared.messages.heard.Connecting.{Connecting}
+use Rattle.stack_assoc.specs.Wire.Tsdus.{accept_tsdu}
 use Rattle.stack_assoc.specs.declared.input.StackState.TheVariants as states
 use Rattle.stack_assoc.specs.declared.end_state.EndState.TheVariants as standings
 use Rattle.stack_assoc.specs.Arrivals.{Arrival, Role, called, first_in, connect_in}
@@ -35,13 +35,13 @@ use Rattle.stack_assoc.proofs.SaidMore.{stands_standing, stands_said}
 use Rattle.tase_views.specs.declared.reply.Answer.{Answer}
 use Rattle.tase_views.specs.declared.reply.Answer.TheVariants as answers
 use Rattle.tase_views.specs.declared.fault.StepFault.{StepFault}
-use Rattle.tase_map.specs.Inputs.{Item, text_given}
-use Rattle.tase_map.specs.Readings.{Reading, reading_of}
-use Rattle.tase_map.specs.Turns.{Turn, turns_of}
-use Rattle.tase_map.specs.Asks.{is_last}
-use Rattle.tase_map.specs.Replied.{pdu_of_reply}
-use Rattle.tase_map.specs.Out.{said, within, release_wire, detail_of, reports_said, first_too_long}
-use Rattle.tase_map.proofs.ReadingLaws.{reading_only}
+use Rattle.tase_conn.specs.Map.Inputs.{Item, text_given}
+use Rattle.tase_conn.specs.Map.Readings.{Reading, reading_of}
+use Rattle.tase_conn.specs.Map.Turns.{Turn, turns_of}
+use Rattle.tase_conn.specs.Map.Asks.{is_last}
+use Rattle.tase_conn.specs.Map.Replied.{pdu_of_reply}
+use Rattle.tase_conn.specs.Map.Out.{said, within, release_wire, detail_of, reports_said, first_too_long}
+use Rattle.tase_conn.proofs.OfMap.ReadingLaws.{reading_only}
 use Rattle.tase_conn.specs.declared.stage.ConnEnd.{ConnEnd}
 use Rattle.tase_conn.specs.declared.stage.ConnEnd.TheVariants as conn_ends
 use Rattle.tase_conn.specs.declared.stage.Stage.{Stage}

@@ -11,25 +11,25 @@ use Rattle.mms_services.specs.declared.initiate.Initiate.{Initiate}
 use Rattle.mms_services.specs.declared.pdu.MmsPdu.{MmsPdu}
 use Rattle.mms_services.specs.declared.pdu.MmsPdu.TheVariants as pdus
 use Rattle.mms_services.specs.declared.request.Request.{Request}
-use Rattle.stack_messages.specs.declared.fault.StackFault.{StackFault}
-use Rattle.stack_wire.specs.declared.setup.AssociationSetup.{AssociationSetup}
+use Rattle.stack_assoc.specs.declared.messages.fault.StackFault.{StackFault}
+use Rattle.stack_assoc.specs.declared.wire.setup.AssociationSetup.{AssociationSetup}
 use Rattle.stack_assoc.specs.declared.input.StackIn.TheVariants as inputs
-use Rattle.stack_messages.specs.declared.heard.Heard.TheVariants as heards
+use Rattle.stack_assoc.specs.declared.messages.heard.Heard.TheVariants as heards
 use Rattle.stack_assoc.specs.Arrivals.{Arrival, called, heard, is_conclude}
 use Rattle.stack_assoc.specs.Courses.{CourseStands, is_accepted}
 use Rattle.stack_assoc.specs.Courses as courses
 use Rattle.stack_assoc.specs.Tellings.{StopsTelling}
 use Rattle.stack_assoc.specs.Expectations.{setup_after}
 use Rattle.tase_views.specs.declared.event.EventKind.TheVariants as events
-use Rattle.tase_map.specs.Asked.{call_of_request, invalid}
-use Rattle.tase_map.specs.Inputs.{Item, text_given}
-use Rattle.tase_map.specs.Readings.{reading_of}
-use Rattle.tase_map.specs.Turns.{Turn, offers, offers_badly, asks, concludes, releases, aborts}
-use Rattle.tase_map.specs.Turns.{breaks, ends, pauses, turn_of_pdu}
-use Rattle.tase_map.specs.Asks.{begins, finishes, is_last, is_open_behind, open_of, event_if}
-use Rattle.tase_map.specs.Out.{abort_wire, release_wire}
-use Rattle.tase_map.proofs.Fronts.{setup_fixed}
-use Rattle.tase_map.proofs.ReadingLaws.{reading_only}
+use Rattle.tase_conn.specs.Map.Asked.{call_of_request, invalid}
+use Rattle.tase_conn.specs.Map.Inputs.{Item, text_given}
+use Rattle.tase_conn.specs.Map.Readings.{reading_of}
+use Rattle.tase_conn.specs.Map.Turns.{Turn, offers, offers_badly, asks, concludes, releases, aborts}
+use Rattle.tase_conn.specs.Map.Turns.{breaks, ends, pauses, turn_of_pdu}
+use Rattle.tase_conn.specs.Map.Asks.{begins, finishes, is_last, is_open_behind, open_of, event_if}
+use Rattle.tase_conn.specs.Map.Out.{abort_wire, release_wire}
+use Rattle.tase_conn.proofs.OfMap.Fronts.{setup_fixed}
+use Rattle.tase_conn.proofs.OfMap.ReadingLaws.{reading_only}
 use Rattle.tase_conn.specs.declared.stage.ConnEnd.TheVariants as conn_ends
 use Rattle.tase_conn.specs.declared.stage.Stage.{Stage}
 use Rattle.tase_conn.specs.declared.stage.Stage.TheVariants as stages

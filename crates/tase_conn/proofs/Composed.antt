@@ -6,15 +6,15 @@ use Rattle.std.proofs.lemmas.Bool.{false≢true}
 use Rattle.std.proofs.lemmas.List.{append-nil}
 use Rattle.std.proofs.lemmas.Grind.{flat_map-append}
 use Rattle.bilateral.specs.Rows.{CentreRows}
-use Rattle.stack_messages.specs.declared.fault.StackFault.{StackFault}
-use Rattle.stack_wire.specs.declared.setup.AssociationSetup.{AssociationSetup}
+use Rattle.stack_assoc.specs.declared.messages.fault.StackFault.{StackFault}
+use Rattle.stack_assoc.specs.declared.wire.setup.AssociationSetup.{AssociationSetup}
 use Rattle.stack_assoc.specs.Arrivals.{Arrival, called}
 use Rattle.stack_assoc.specs.Expectations.{setup_after}
 use Rattle.stack_assoc.specs.Handing.{answer_to, answers_to}
 use Rattle.tase_views.specs.declared.event.EventKind.{EventKind}
-use Rattle.tase_map.specs.Inputs.{Item}
-use Rattle.tase_map.specs.Turns.{Turn, turns_of}
-use Rattle.tase_map.specs.Asks.{asks_behind, up_to_last}
+use Rattle.tase_conn.specs.Map.Inputs.{Item}
+use Rattle.tase_conn.specs.Map.Turns.{Turn, turns_of}
+use Rattle.tase_conn.specs.Map.Asks.{asks_behind, up_to_last}
 use Rattle.tase_conn.specs.declared.stage.ConnEnd.{ConnEnd}
 use Rattle.tase_conn.specs.declared.stage.Behind.{Behind}
 use Rattle.tase_conn.specs.declared.stage.Behind.TheVariants as behinds
@@ -30,7 +30,7 @@ use Rattle.tase_conn.specs.Places.{Position, position_by, Reach, RoomBy}
 use Rattle.tase_conn.specs.Wanting.{quiet_at, quiet_behind, ReadsOn, AreAllTurns, ReadsNext}
 use Rattle.tase_conn.specs.Wanting.{Passes, IsIdle}
 use Rattle.tase_conn.specs.Acting.{ActsOnTurns, StepsBy, HasEnded, has_more, is_left}
-use Rattle.tase_map.proofs.AskedOn.{asks_join}
+use Rattle.tase_conn.proofs.OfMap.AskedOn.{asks_join}
 use Rattle.tase_conn.proofs.Acted.{running_idle}
 use Rattle.tase_conn.proofs.LastTurns.{uncut, at_end, brought_whole}
 

@@ -10,8 +10,8 @@ use Rattle.std.proofs.lemmas.Bool.{false≢true}
 use Rattle.std.proofs.lemmas.List.{append-nil}
 use Rattle.std.proofs.lemmas.List.Elements.{filter_map-append}
 use Rattle.bilateral.specs.Rows.{CentreRows}
-use Rattle.stack_messages.specs.declared.fault.StackFault.{StackFault}
-use Rattle.stack_messages.specs.declared.heard.Connecting.{Connecting}
+use Rattle.stack_assoc.specs.declared.messages.fault.StackFault.{StackFault}
+use Rattle.stack_assoc.specs.declared.messages.heard.Connecting.{Connecting}
 use Rattle.stack_assoc.specs.declared.input.StackIn.{StackIn}
 use Rattle.stack_assoc.specs.declared.end_state.EndState.{EndState}
 use Rattle.stack_assoc.specs.Arrivals.{Arrival, asked, confirmed, gone, heard, called, connect_in}
@@ -21,15 +21,15 @@ use Rattle.stack_assoc.specs.Courses.{Course, CourseStands, IsCourseSettled, Goe
 use Rattle.stack_assoc.specs.Courses.{is_offered, standing_with, standing_behind, stack_state_of}
 use Rattle.stack_assoc.specs.Courses.{state_with, fault_in}
 use Rattle.stack_assoc.specs.Steps.{left_of}
-use Rattle.tase_map.specs.Inputs.{Item, text_given}
-use Rattle.tase_map.specs.Inputs as given
-use Rattle.tase_map.specs.Readings.{Reading, reading_of}
-use Rattle.tase_map.specs.Turns.{Turn, breaks, turn_in, fault_turns, turns_behind_octets, turns_of}
-use Rattle.tase_map.specs.Asks.{begins, finishes, is_last}
-use Rattle.tase_map.specs.Out.{detail_of}
-use Rattle.tase_map.proofs.ReadingLaws.{reading, reading_only}
-use Rattle.tase_map.proofs.Fronts.{last_comes, last_lawful, first_kept}
-use Rattle.tase_map.proofs.TurnsRead.{turns_heard, heard-append}
+use Rattle.tase_conn.specs.Map.Inputs.{Item, text_given}
+use Rattle.tase_conn.specs.Map.Inputs as given
+use Rattle.tase_conn.specs.Map.Readings.{Reading, reading_of}
+use Rattle.tase_conn.specs.Map.Turns.{Turn, breaks, turn_in, fault_turns, turns_behind_octets, turns_of}
+use Rattle.tase_conn.specs.Map.Asks.{begins, finishes, is_last}
+use Rattle.tase_conn.specs.Map.Out.{detail_of}
+use Rattle.tase_conn.proofs.OfMap.ReadingLaws.{reading, reading_only}
+use Rattle.tase_conn.proofs.OfMap.Fronts.{last_comes, last_lawful, first_kept}
+use Rattle.tase_conn.proofs.OfMap.TurnsRead.{turns_heard, heard-append}
 use Rattle.tase_conn.specs.declared.stage.Stage.{Stage}
 use Rattle.tase_conn.specs.declared.stage.Stage.TheVariants as stages
 use Rattle.tase_conn.specs.declared.stage.Behind.{Behind}

@@ -6,18 +6,18 @@ use Rattle.std.specs.List.{list_any}
 use Rattle.std.proofs.lemmas.List.{append-nil}
 use Rattle.std.proofs.lemmas.Grind.{flat_map-append}
 use Rattle.bilateral.specs.Rows.{CentreRows}
-use Rattle.stack_messages.specs.declared.fault.StackFault.{StackFault}
+use Rattle.stack_assoc.specs.declared.messages.fault.StackFault.{StackFault}
 use Rattle.stack_assoc.specs.Arrivals.{Arrival, called}
 use Rattle.stack_assoc.proofs.StreamLaws.{fault_stays}
 use Rattle.stack_assoc.proofs.Enough.{or_left, or_right}
-use Rattle.tase_map.specs.Inputs.{Item, given_octets, text_given}
-use Rattle.tase_map.specs.Readings.{Reading, TellsReading, reading_of}
-use Rattle.tase_map.specs.Turns.{Turn, turns_of}
-use Rattle.tase_map.specs.Turns.{offers, offers_badly, asks, concludes, releases, aborts, breaks}
-use Rattle.tase_map.specs.Turns.{ends, pauses}
-use Rattle.tase_map.specs.Asks.{is_last, up_to_last}
-use Rattle.tase_map.proofs.AskedOn.{turns_on}
-use Rattle.tase_map.proofs.ReadingLaws.{reading_only, reading_found}
+use Rattle.tase_conn.specs.Map.Inputs.{Item, given_octets, text_given}
+use Rattle.tase_conn.specs.Map.Readings.{Reading, TellsReading, reading_of}
+use Rattle.tase_conn.specs.Map.Turns.{Turn, turns_of}
+use Rattle.tase_conn.specs.Map.Turns.{offers, offers_badly, asks, concludes, releases, aborts, breaks}
+use Rattle.tase_conn.specs.Map.Turns.{ends, pauses}
+use Rattle.tase_conn.specs.Map.Asks.{is_last, up_to_last}
+use Rattle.tase_conn.proofs.OfMap.AskedOn.{turns_on}
+use Rattle.tase_conn.proofs.OfMap.ReadingLaws.{reading_only, reading_found}
 use Rattle.tase_conn.specs.declared.stage.ConnEnd.{ConnEnd}
 use Rattle.tase_conn.specs.declared.stage.ConnEnd.TheVariants as conn_ends
 use Rattle.tase_conn.specs.PeerEnd.{last_turn, end_at, peer_end}

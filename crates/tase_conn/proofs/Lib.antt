@@ -11,3 +11,4 @@ pub mod Placing
 pub mod LastTurns
 pub mod AnswersNoted
 pub mod Reported
+pub mod OfMap

@@ -11,9 +11,9 @@ use Rattle.mms_services.specs.declared.pdu.MmsPdu.{MmsPdu}
 use Rattle.mms_services.specs.declared.pdu.MmsPdu.TheVariants as pdus
 use Rattle.presentation_profile.specs.Agreements.{acse_of}
 use Rattle.acse_assoc.specs.Writing.{mms_context}
-use Rattle.stack_messages.specs.declared.heard.Connecting.{Connecting}
-use Rattle.stack_messages.specs.declared.heard.Heard.{Heard}
-use Rattle.stack_messages.specs.declared.heard.Heard.TheVariants as heards
+use Rattle.stack_assoc.specs.declared.messages.heard.Connecting.{Connecting}
+use Rattle.stack_assoc.specs.declared.messages.heard.Heard.{Heard}
+use Rattle.stack_assoc.specs.declared.messages.heard.Heard.TheVariants as heards
 use Rattle.stack_assoc.specs.declared.input.StackIn.{StackIn}
 use Rattle.stack_assoc.specs.declared.input.StackIn.TheVariants as inputs
 use Rattle.stack_assoc.specs.declared.end_state.EndState.{EndState}
@@ -22,9 +22,9 @@ use Rattle.stack_assoc.specs.Arrivals.{Arrival, asked, confirmed, gone, heard, o
 use Rattle.stack_assoc.specs.Arrivals.{connect_in, is_conclude}
 use Rattle.stack_assoc.specs.Handing.{is_offer, is_too_little, input_heard, stack_in, handed_out}
 use Rattle.stack_assoc.specs.Courses.{standing_offered, standing_with, standing_behind}
-use Rattle.tase_map.specs.LawfulTold.{IsLawfulTold}
-use Rattle.tase_map.specs.Turns.{turn_of_pdu}
-use Rattle.tase_map.proofs.MessageOrder.{HasBegun, PduComes, HeardComes, Comes}
+use Rattle.tase_conn.specs.Map.LawfulTold.{IsLawfulTold}
+use Rattle.tase_conn.specs.Map.Turns.{turn_of_pdu}
+use Rattle.tase_conn.proofs.OfMap.MessageOrder.{HasBegun, PduComes, HeardComes, Comes}
 use Rattle.tase_conn.specs.declared.stage.Stage.{Stage}
 use Rattle.tase_conn.specs.declared.stage.Stage.TheVariants as stages
 use Rattle.tase_conn.specs.declared.stage.Coming.TheVariants as comings

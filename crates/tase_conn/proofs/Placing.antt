@@ -6,18 +6,18 @@ use Rattle.std.specs.Prelude.{Vec, vec_len, vec_capacity, ◌⊎◌, MatchBool, 
 use Rattle.std.specs.declared.alloc.Global.{Global}
 use Rattle.std.proofs.lemmas.List.{append-nil, nil_from_length}
 use Rattle.bilateral.specs.Rows.{CentreRows}
-use Rattle.stack_messages.specs.declared.fault.StackFault.{StackFault}
+use Rattle.stack_assoc.specs.declared.messages.fault.StackFault.{StackFault}
 use Rattle.stack_assoc.specs.declared.input.StackState.TheVariants as states
 use Rattle.stack_assoc.specs.declared.end_state.EndState.{EndState}
 use Rattle.stack_assoc.specs.declared.end_state.EndState.TheVariants as standings
 use Rattle.stack_assoc.specs.Arrivals.{Arrival, called}
 use Rattle.stack_assoc.specs.Courses.{Course, CourseStands, IsCourseSettled, is_offered, state_by, state_with}
 use Rattle.stack_assoc.specs.Courses.{stack_state_of}
-use Rattle.tase_map.specs.Inputs.{Item, piece, idle, ended, given_octets, text_given}
-use Rattle.tase_map.specs.Readings.{Reading, reading_of}
-use Rattle.tase_map.specs.Turns.{Turn, turns_of}
-use Rattle.tase_map.proofs.ReadingLaws.{reading, reading_only}
-use Rattle.tase_map.proofs.TurnOrder.{nothing_said}
+use Rattle.tase_conn.specs.Map.Inputs.{Item, piece, idle, ended, given_octets, text_given}
+use Rattle.tase_conn.specs.Map.Readings.{Reading, reading_of}
+use Rattle.tase_conn.specs.Map.Turns.{Turn, turns_of}
+use Rattle.tase_conn.proofs.OfMap.ReadingLaws.{reading, reading_only}
+use Rattle.tase_conn.proofs.OfMap.TurnOrder.{nothing_said}
 use Rattle.tase_conn.specs.declared.stage.ConnEnd.{ConnEnd}
 use Rattle.tase_conn.specs.declared.stage.Stage.{Stage}
 use Rattle.tase_conn.specs.declared.stage.Stage.TheVariants as stages

@@ -5,12 +5,12 @@ use Rattle.std.specs.Prelude.{int_lt, if◌then◌else◌}
 use borrow.Author.Differences.{lt-true}
 use Rattle.mms_services.specs.declared.pdu.MmsPdu.{MmsPdu}
 use Rattle.mms_services.specs.PduOctets.{pdu_len}
-use Rattle.stack_wire.specs.declared.setup.AssociationSetup.{AssociationSetup}
+use Rattle.stack_assoc.specs.declared.wire.setup.AssociationSetup.{AssociationSetup}
 use Rattle.stack_assoc.specs.Saying.{says_conclude}
 use Rattle.tase_views.specs.declared.reply.ReportKind.{ReportKind}
 use Rattle.tase_views.specs.declared.reply.ReportKind.TheVariants as reports
-use Rattle.tase_map.specs.Replied.{pdu_of_report}
-use Rattle.tase_map.specs.Out.{said, reports_said, first_too_long}
+use Rattle.tase_conn.specs.Map.Replied.{pdu_of_report}
+use Rattle.tase_conn.specs.Map.Out.{said, reports_said, first_too_long}
 use Rattle.tase_conn.specs.Noting.{len_above, said_up_to}
 
 -- no report concludes

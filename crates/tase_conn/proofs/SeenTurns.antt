@@ -3,14 +3,14 @@ use Rattle.std.proofs.Common.{◌≡◌, List, [], ◌∷◌, ◌++◌, Option, 
 use Rattle.std.proofs.Common.{append_assoc, MatchOption}
 use Rattle.std.proofs.lemmas.List.{append-nil}
 use Rattle.bilateral.specs.Rows.{CentreRows}
-use Rattle.stack_messages.specs.declared.fault.StackFault.{StackFault}
+use Rattle.stack_assoc.specs.declared.messages.fault.StackFault.{StackFault}
 use Rattle.stack_assoc.specs.Arrivals.{Arrival, called}
 use Rattle.stack_assoc.specs.Courses.{CourseStands}
-use Rattle.tase_map.specs.Inputs.{Item, text_given}
-use Rattle.tase_map.specs.Readings.{reading_of}
-use Rattle.tase_map.specs.Turns.{Turn, fault_turns, turns_behind_octets, turns_of}
-use Rattle.tase_map.proofs.Fronts.{told_front}
-use Rattle.tase_map.proofs.TurnsRead.{turns_heard, heard-append, item_turns}
+use Rattle.tase_conn.specs.Map.Inputs.{Item, text_given}
+use Rattle.tase_conn.specs.Map.Readings.{reading_of}
+use Rattle.tase_conn.specs.Map.Turns.{Turn, fault_turns, turns_behind_octets, turns_of}
+use Rattle.tase_conn.proofs.OfMap.Fronts.{told_front}
+use Rattle.tase_conn.proofs.OfMap.TurnsRead.{turns_heard, heard-append, item_turns}
 use Rattle.tase_conn.specs.declared.stage.PendingEvent.{PendingEvent}
 use Rattle.tase_conn.specs.declared.stage.Behind.{Behind}
 use Rattle.tase_conn.specs.declared.stage.Behind.TheVariants as behinds

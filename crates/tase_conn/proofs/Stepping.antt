@@ -12,9 +12,9 @@ use Rattle.mms_services.specs.declared.initiate.Initiate.{Initiate}
 use Rattle.mms_services.specs.declared.pdu.MmsPdu.{MmsPdu}
 use Rattle.mms_services.specs.declared.pdu.MmsPdu.TheVariants as pdus
 use Rattle.mms_services.specs.declared.request.Request.{Request}
-use Rattle.stack_messages.specs.declared.expecting.Side.{Side}
-use Rattle.stack_messages.specs.declared.expecting.Side.TheVariants as sides
-use Rattle.stack_messages.specs.declared.fault.StackFault.{StackFault}
+use Rattle.stack_assoc.specs.declared.messages.expecting.Side.{Side}
+use Rattle.stack_assoc.specs.declared.messages.expecting.Side.TheVariants as sides
+use Rattle.stack_assoc.specs.declared.messages.fault.StackFault.{StackFault}
 use Rattle.stack_assoc.specs.declared.input.StackIn.TheVariants as inputs
 use Rattle.stack_assoc.specs.declared.end_state.EndState.{EndState}
 use Rattle.stack_assoc.specs.declared.end_state.EndState.TheVariants as standings
@@ -24,12 +24,12 @@ use Rattle.stack_assoc.specs.Saying.{may_leave}
 use Rattle.stack_assoc.specs.Expectations.{setup_after}
 use Rattle.tase_views.specs.declared.event.EventKind.{EventKind}
 use Rattle.tase_views.specs.declared.event.EventKind.TheVariants as events
-use Rattle.tase_map.specs.Asked.{call_of_request, invalid}
-use Rattle.tase_map.specs.Inputs.{Item}
-use Rattle.tase_map.specs.Turns.{Turn, offers, offers_badly, asks, releases, aborts, breaks, ends}
-use Rattle.tase_map.specs.Turns.{concludes, pauses, turn_of_pdu}
-use Rattle.tase_map.specs.Asks.{begins, finishes, is_open_behind}
-use Rattle.tase_map.specs.Out.{abort_wire, release_wire}
+use Rattle.tase_conn.specs.Map.Asked.{call_of_request, invalid}
+use Rattle.tase_conn.specs.Map.Inputs.{Item}
+use Rattle.tase_conn.specs.Map.Turns.{Turn, offers, offers_badly, asks, releases, aborts, breaks, ends}
+use Rattle.tase_conn.specs.Map.Turns.{concludes, pauses, turn_of_pdu}
+use Rattle.tase_conn.specs.Map.Asks.{begins, finishes, is_open_behind}
+use Rattle.tase_conn.specs.Map.Out.{abort_wire, release_wire}
 use Rattle.tase_conn.specs.declared.stage.ConnEnd.TheVariants as conn_ends
 use Rattle.tase_conn.specs.declared.stage.ConnEnd.{ConnEnd}
 use Rattle.tase_conn.specs.declared.stage.Stage.{Stage}

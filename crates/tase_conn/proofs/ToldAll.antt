@@ -3,19 +3,19 @@ use Rattle.std.proofs.Common.{◌≡◌, ◌≤◌, true, List, ◌++◌, length
 use Rattle.std.proofs.Common.{Option, Some, None, sym, ap, subst, ◌∙◌, MatchOption}
 use Rattle.std.specs.Prelude.{is_some}
 use Rattle.bilateral.specs.Rows.{CentreRows}
-use Rattle.stack_messages.specs.declared.fault.StackFault.{StackFault}
+use Rattle.stack_assoc.specs.declared.messages.fault.StackFault.{StackFault}
 use Rattle.stack_assoc.specs.Arrivals.{Arrival, called, first_in, connect_in}
 use Rattle.stack_assoc.specs.Tellings.{StopsTelling}
 use Rattle.stack_assoc.specs.Handing.{answers_to}
 use Rattle.stack_assoc.specs.Expectations.{setup_after}
 use Rattle.stack_assoc.specs.Courses.{Course, CourseStands}
 use Rattle.stack_assoc.specs.Courses as courses
-use Rattle.tase_map.specs.Inputs.{Item, text_given}
-use Rattle.tase_map.specs.Readings.{Reading, reading_of}
-use Rattle.tase_map.specs.Turns.{Turn, turns_of}
-use Rattle.tase_map.proofs.Fronts.{HasFront, told_front, whole_front, first_kept, setup_fixed}
-use Rattle.tase_map.proofs.Fronts.{answers_told, some_told}
-use Rattle.tase_map.proofs.ReadingLaws.{reading_only}
+use Rattle.tase_conn.specs.Map.Inputs.{Item, text_given}
+use Rattle.tase_conn.specs.Map.Readings.{Reading, reading_of}
+use Rattle.tase_conn.specs.Map.Turns.{Turn, turns_of}
+use Rattle.tase_conn.proofs.OfMap.Fronts.{HasFront, told_front, whole_front, first_kept, setup_fixed}
+use Rattle.tase_conn.proofs.OfMap.Fronts.{answers_told, some_told}
+use Rattle.tase_conn.proofs.OfMap.ReadingLaws.{reading_only}
 use Rattle.tase_conn.specs.declared.stage.Behind.{Behind}
 use Rattle.tase_conn.specs.declared.stage.Behind.TheVariants as behinds
 use Rattle.tase_conn.specs.declared.stage.Coming.{Coming}

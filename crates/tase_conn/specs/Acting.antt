@@ -3,16 +3,16 @@ use Rattle.std.specs.Prelude.{◌≡◌, ℕ, ◌+◌, ◌*◌, ◌<◌, Bool, t
 use Rattle.std.specs.Prelude.{Option, Some, None}
 use Rattle.bilateral.specs.Rows.{CentreRows}
 use Rattle.mms_services.specs.declared.pdu.MmsPdu.TheVariants as pdus
-use Rattle.stack_messages.specs.declared.fault.StackFault.{StackFault}
+use Rattle.stack_assoc.specs.declared.messages.fault.StackFault.{StackFault}
 use Rattle.stack_assoc.specs.declared.input.StackIn.TheVariants as inputs
 use Rattle.stack_assoc.specs.Arrivals.{Arrival}
 use Rattle.stack_assoc.specs.Courses.{Course}
 use Rattle.stack_assoc.specs.Steps.{left_of}
 use Rattle.stack_assoc.specs.Expectations.{setup_after}
 use Rattle.tase_views.specs.declared.event.EventKind.{EventKind}
-use Rattle.tase_map.specs.Inputs.{Item}
-use Rattle.tase_map.specs.Turns.{Turn}
-use Rattle.tase_map.specs.Asks.{asks_behind}
+use Rattle.tase_conn.specs.Map.Inputs.{Item}
+use Rattle.tase_conn.specs.Map.Turns.{Turn}
+use Rattle.tase_conn.specs.Map.Asks.{asks_behind}
 use Rattle.tase_conn.specs.declared.stage.Behind.{Behind}
 use Rattle.tase_conn.specs.declared.stage.Behind.TheVariants as behinds
 use Rattle.tase_conn.specs.declared.stage.Coming.{Coming}

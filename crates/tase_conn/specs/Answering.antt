@@ -6,15 +6,15 @@ use Rattle.tpkt_cotp.specs.Written.{wire}
 use Rattle.mms_services.specs.declared.initiate.Initiate.{Initiate}
 use Rattle.mms_services.specs.declared.initiate.TheConstants.{MOST_DETAIL}
 use Rattle.mms_services.specs.declared.pdu.MmsPdu.TheVariants as pdus
-use Rattle.stack_wire.specs.Tsdus.{accept_tsdu}
+use Rattle.stack_assoc.specs.Wire.Tsdus.{accept_tsdu}
 use Rattle.stack_assoc.specs.Courses.{Course, is_accepted}
 use Rattle.bilateral.specs.Rows.{CentreRows, table_of}
 use Rattle.tase_views.specs.declared.reply.Answer.{Answer}
 use Rattle.tase_views.specs.declared.reply.Answer.TheVariants as answers
 use Rattle.tase_views.specs.declared.fault.StepFault.{StepFault}
 use Rattle.tase_views.specs.declared.fault.StepFault.TheVariants as faults
-use Rattle.tase_map.specs.Replied.{pdu_of_reply}
-use Rattle.tase_map.specs.Out.{said, within, reports_said, release_wire, abort_wire, first_too_long}
+use Rattle.tase_conn.specs.Map.Replied.{pdu_of_reply}
+use Rattle.tase_conn.specs.Map.Out.{said, within, reports_said, release_wire, abort_wire, first_too_long}
 use Rattle.tase_conn.specs.declared.stage.ConnEnd.{ConnEnd}
 use Rattle.tase_conn.specs.declared.stage.ConnEnd.TheVariants as conn_ends
 use Rattle.tase_conn.specs.declared.stage.Stage.{Stage}

@@ -1,11 +1,11 @@
 -- What a connection is that is given up, or whose association is closed.
 use Rattle.std.specs.Prelude.{◌≡◌, ◌++◌, ℕ, List, Bool, true, false, None, MatchBool}
 use Rattle.mms_services.specs.declared.pdu.MmsPdu.TheVariants as pdus
-use Rattle.stack_messages.specs.declared.expecting.Side.TheVariants as sides
+use Rattle.stack_assoc.specs.declared.messages.expecting.Side.TheVariants as sides
 use Rattle.stack_assoc.specs.declared.input.StackState.TheVariants as states
 use Rattle.stack_assoc.specs.Courses.{Course, stack_state_of}
 use Rattle.stack_assoc.specs.Saying.{with_said, may_release}
-use Rattle.tase_map.specs.Out.{said, release_wire}
+use Rattle.tase_conn.specs.Map.Out.{said, release_wire}
 use Rattle.tase_conn.specs.declared.stage.Cause.{Cause}
 use Rattle.tase_conn.specs.declared.stage.Cause.TheVariants as causes
 use Rattle.tase_conn.specs.declared.stage.Behind.TheVariants as behinds

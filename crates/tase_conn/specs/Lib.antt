@@ -7,3 +7,4 @@ pub mod Answering
 pub mod Leaving
 pub mod Noting
 pub mod Taken
+pub mod Map

@@ -5,15 +5,15 @@ use Rattle.tpkt_cotp.specs.Written.{wire}
 use Rattle.mms_services.specs.declared.initiate.Initiate.{Initiate}
 use Rattle.mms_services.specs.declared.pdu.MmsPdu.{MmsPdu}
 use Rattle.mms_services.specs.PduOctets.{pdu_len}
-use Rattle.stack_wire.specs.declared.setup.AssociationSetup.{AssociationSetup}
-use Rattle.stack_wire.specs.Tsdus.{accept_tsdu}
+use Rattle.stack_assoc.specs.declared.wire.setup.AssociationSetup.{AssociationSetup}
+use Rattle.stack_assoc.specs.Wire.Tsdus.{accept_tsdu}
 use Rattle.stack_assoc.specs.declared.end_state.EndState.TheVariants as standings
 use Rattle.stack_assoc.specs.Saying.{with_standing, with_said}
 use Rattle.tase_views.specs.declared.reply.Answer.{Answer}
 use Rattle.tase_views.specs.declared.reply.Answer.TheVariants as answers
 use Rattle.tase_views.specs.declared.reply.ReportKind.{ReportKind}
-use Rattle.tase_map.specs.Replied.{pdu_of_reply}
-use Rattle.tase_map.specs.Out.{said, within, reports_said, first_too_long}
+use Rattle.tase_conn.specs.Map.Replied.{pdu_of_reply}
+use Rattle.tase_conn.specs.Map.Out.{said, within, reports_said, first_too_long}
 use Rattle.tase_conn.specs.declared.stage.Stage.TheVariants as stages
 use Rattle.tase_conn.specs.declared.stage.PendingEvent.{PendingEvent}
 use Rattle.tase_conn.specs.declared.stage.PendingEvent.TheVariants as askeds

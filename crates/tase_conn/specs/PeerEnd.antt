@@ -2,12 +2,12 @@
 use Rattle.std.specs.Prelude.{List, filter, slice_get, Option, Some, None, option_map}
 use Rattle.std.specs.Prelude.{option_and_then}
 use Rattle.bilateral.specs.Rows.{CentreRows}
-use Rattle.stack_messages.specs.declared.fault.StackFault.{StackFault}
-use Rattle.tase_map.specs.Inputs.{Item, text_given}
-use Rattle.tase_map.specs.Readings.{reading_of}
-use Rattle.tase_map.specs.Turns.{Turn, offers, offers_badly, asks, concludes, releases, aborts}
-use Rattle.tase_map.specs.Turns.{breaks, ends, pauses, turns_of}
-use Rattle.tase_map.specs.Asks.{is_last}
+use Rattle.stack_assoc.specs.declared.messages.fault.StackFault.{StackFault}
+use Rattle.tase_conn.specs.Map.Inputs.{Item, text_given}
+use Rattle.tase_conn.specs.Map.Readings.{reading_of}
+use Rattle.tase_conn.specs.Map.Turns.{Turn, offers, offers_badly, asks, concludes, releases, aborts}
+use Rattle.tase_conn.specs.Map.Turns.{breaks, ends, pauses, turns_of}
+use Rattle.tase_conn.specs.Map.Asks.{is_last}
 use Rattle.tase_conn.specs.declared.stage.ConnEnd.{ConnEnd}
 use Rattle.tase_conn.specs.declared.stage.ConnEnd.TheVariants as conn_ends
 

@@ -9,24 +9,24 @@ use Rattle.mms_services.specs.Negotiations.{granted}
 use Rattle.mms_services.specs.declared.initiate.Initiate.{Initiate}
 use Rattle.mms_services.specs.declared.pdu.MmsPdu.{MmsPdu}
 use Rattle.mms_services.specs.declared.pdu.MmsPdu.TheVariants as pdus
-use Rattle.stack_messages.specs.declared.fault.StackFault.{StackFault}
-use Rattle.stack_messages.specs.declared.heard.Connecting.{Connecting}
+use Rattle.stack_assoc.specs.declared.messages.fault.StackFault.{StackFault}
+use Rattle.stack_assoc.specs.declared.messages.heard.Connecting.{Connecting}
 use Rattle.stack_assoc.specs.declared.input.StackIn.{StackIn}
 use Rattle.stack_assoc.specs.declared.input.StackIn.TheVariants as inputs
 use Rattle.stack_assoc.specs.declared.end_state.EndState.{EndState}
 use Rattle.stack_assoc.specs.declared.end_state.EndState.TheVariants as standings
-use Rattle.stack_messages.specs.declared.heard.Heard.TheVariants as heards
+use Rattle.stack_assoc.specs.declared.messages.heard.Heard.TheVariants as heards
 use Rattle.stack_assoc.specs.Arrivals.{Arrival, heard, called, first_in, connect_in, is_conclude}
 use Rattle.stack_assoc.specs.Expectations.{setup_after}
 use Rattle.stack_assoc.specs.Handing.{answers_to, handed_out, is_too_little}
 use Rattle.stack_assoc.specs.Courses.{Course, CourseStands, IsCourseSettled, finishing}
 use Rattle.tase_views.specs.declared.call.CallKind.{CallKind}
-use Rattle.tase_map.specs.Inputs.{Item, piece, idle, ended, text_given}
-use Rattle.tase_map.specs.Readings.{reading_of}
-use Rattle.tase_map.specs.Turns.{Turn, offers, asks, concludes, releases, aborts}
-use Rattle.tase_map.specs.Turns.{breaks, ends, pauses, turns_of, turn_in, turn_of_pdu}
-use Rattle.tase_map.specs.Asks.{begins, finishes, is_last, up_to_last}
-use Rattle.tase_map.specs.Out.{detail_of}
+use Rattle.tase_conn.specs.Map.Inputs.{Item, piece, idle, ended, text_given}
+use Rattle.tase_conn.specs.Map.Readings.{reading_of}
+use Rattle.tase_conn.specs.Map.Turns.{Turn, offers, asks, concludes, releases, aborts}
+use Rattle.tase_conn.specs.Map.Turns.{breaks, ends, pauses, turns_of, turn_in, turn_of_pdu}
+use Rattle.tase_conn.specs.Map.Asks.{begins, finishes, is_last, up_to_last}
+use Rattle.tase_conn.specs.Map.Out.{detail_of}
 use Rattle.tase_conn.specs.declared.stage.ConnEnd.{ConnEnd}
 use Rattle.tase_conn.specs.declared.stage.ConnEnd.TheVariants as conn_ends
 use Rattle.tase_conn.specs.declared.stage.Stage.{Stage}

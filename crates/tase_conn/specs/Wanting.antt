@@ -5,18 +5,18 @@ use Rattle.std.specs.Prelude.{Option, Some, None}
 use Rattle.std.specs.List.{list_any}
 use Rattle.tpkt_cotp.specs.Written.{wire}
 use Rattle.bilateral.specs.Rows.{CentreRows}
-use Rattle.stack_wire.specs.declared.setup.AssociationSetup.{AssociationSetup}
-use Rattle.stack_wire.specs.Tsdus.{refusal_tsdu}
+use Rattle.stack_assoc.specs.declared.wire.setup.AssociationSetup.{AssociationSetup}
+use Rattle.stack_assoc.specs.Wire.Tsdus.{refusal_tsdu}
 use Rattle.stack_assoc.specs.Arrivals.{Arrival, called}
 use Rattle.stack_assoc.specs.Expectations.{setup_after}
 use Rattle.stack_assoc.specs.Handing.{answers_to}
 use Rattle.tase_views.specs.declared.event.EventKind.{EventKind}
 use Rattle.tase_views.specs.declared.event.EventKind.TheVariants as events
-use Rattle.tase_map.specs.Inputs.{Item}
-use Rattle.tase_map.specs.Turns.{Turn, offers, offers_badly, asks, concludes, releases, aborts}
-use Rattle.tase_map.specs.Turns.{breaks, ends, pauses, turns_of}
-use Rattle.tase_map.specs.Asks.{is_peers, begins, is_open_behind, asks_behind, up_to_last}
-use Rattle.tase_map.specs.Out.{release_wire, abort_wire}
+use Rattle.tase_conn.specs.Map.Inputs.{Item}
+use Rattle.tase_conn.specs.Map.Turns.{Turn, offers, offers_badly, asks, concludes, releases, aborts}
+use Rattle.tase_conn.specs.Map.Turns.{breaks, ends, pauses, turns_of}
+use Rattle.tase_conn.specs.Map.Asks.{is_peers, begins, is_open_behind, asks_behind, up_to_last}
+use Rattle.tase_conn.specs.Map.Out.{release_wire, abort_wire}
 use Rattle.tase_conn.specs.declared.stage.PendingEvent.TheVariants as askeds
 use Rattle.tase_conn.specs.declared.stage.Progress.{Progress}
 use Rattle.tase_conn.specs.declared.stage.Progress.TheVariants as progresses

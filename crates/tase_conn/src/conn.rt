@@ -7,7 +7,7 @@ ghost use Rattle.tpkt_cotp.specs.declared.limits.TheConstants.{TPKT_LIMIT, TSDU_
 ghost use Rattle.tpkt_cotp.specs.Streams.{stream_place};
 ghost use Rattle.ber_values.specs.Octets.{IsOctets};
 ghost use Rattle.stack_assoc.specs.Courses.{count_held};
-ghost use Rattle.tase_map.specs.Inputs.{piece as a_piece, idle, ended};
+ghost use Rattle.tase_conn.specs.Map.Inputs.{piece as a_piece, idle, ended};
 ghost use Rattle.tase_conn.specs.declared.stage.Progress.TheVariants as progresses;
 ghost use Rattle.tase_conn.specs.declared.stage.PendingEvent.TheVariants as askeds;
 ghost use Rattle.tase_conn.specs.Talking.{pending_of, next_pending, conn_end_in, IsResting};

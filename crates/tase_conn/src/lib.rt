@@ -4,6 +4,7 @@
 
 mod conn;
 mod ending;
+pub mod map;
 mod reading;
 mod stage;
 mod telling;

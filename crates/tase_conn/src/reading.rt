@@ -20,14 +20,14 @@ ghost use Rattle.tase_conn.specs.Acting.{holding_behind, holding_fault};
 ghost use Rattle.tase_conn.specs.Leaving.{AddsAnswer, EndsFor, MayEnd, finished};
 
 use crate::conn::Conn;
+use crate::map::{call_of, invalid_call};
 use crate::stage::{Behind, Cause, Coming, ConnEnd, PendingEvent, Progress, Stage, Step};
 use ber_values::Oid;
 use bilateral::peer_of;
 use mms_services::{Initiate, MmsPdu, Request, negotiate};
 use stack_assoc::StackIn;
-use stack_messages::StackFault;
+use stack_assoc::messages::StackFault;
 use std::alloc::AllocError;
-use tase_map::{call_of, invalid_call};
 use tase_views::{Call, Event, EventKind};
 
 impl Conn {

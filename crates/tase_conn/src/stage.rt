@@ -1,7 +1,7 @@
 //! How far a connection has come.
 use mms_services::Initiate;
 use stack_assoc::StackIn;
-use stack_messages::StackFault;
+use stack_assoc::messages::StackFault;
 use tase_views::Event;
 
 /// How a connection ended.

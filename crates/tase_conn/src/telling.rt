@@ -8,8 +8,8 @@ ghost use Rattle.stack_assoc.specs.declared.input.StackState.TheVariants as stat
 ghost use Rattle.stack_assoc.specs.declared.end_state.EndState.TheVariants as standings;
 ghost use Rattle.stack_assoc.specs.Courses.{stack_state_of};
 ghost use Rattle.stack_assoc.specs.Saying.{says_conclude};
-ghost use Rattle.tase_map.specs.Replied.{pdu_of_reply, pdu_of_report};
-ghost use Rattle.tase_map.specs.Out.{within, reports_said, first_too_long};
+ghost use Rattle.tase_conn.specs.Map.Replied.{pdu_of_reply, pdu_of_report};
+ghost use Rattle.tase_conn.specs.Map.Out.{within, reports_said, first_too_long};
 ghost use Rattle.tase_conn.specs.declared.stage.PendingEvent.TheVariants as askeds;
 ghost use Rattle.tase_conn.specs.declared.stage.Stage.TheVariants as stages;
 ghost use Rattle.tase_conn.specs.declared.stage.Progress.TheVariants as progresses;
@@ -26,10 +26,10 @@ ghost use Rattle.tase_conn.specs.Noting.{with_nothing_waiting, with_reports_said
 ghost use Rattle.tase_conn.specs.Noting.{said_up_to};
 
 use crate::conn::Conn;
+use crate::map::{pdu_of, report_pdu, within};
 use crate::stage::{Cause, ConnEnd, PendingEvent, Progress, Stage};
 use mms_services::{Initiate, MOST_DETAIL, MmsPdu, pdu_len};
 use std::alloc::AllocError;
-use tase_map::{pdu_of, report_pdu, within};
 use tase_views::{Answer, Reply, Report, StepFault};
 
 /// The end of a connection whose event is refused so.

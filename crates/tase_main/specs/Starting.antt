@@ -8,11 +8,11 @@ use Rattle.std.specs.declared.io.ErrorKind.TheVariants.{InvalidData}
 use Rattle.std.specs.IoError.{error_kind}
 use Rattle.std.specs.declared.vec.IntoIter.{IntoIter}
 use Rattle.std.specs.Vec.Iter.{into_iter_items}
-use Rattle.outside_names.specs.Outside.{OutsideTold}
-use Rattle.command_io.specs.declared.status.Status.{Status}
-use Rattle.command_io.specs.declared.status.Status.TheVariants.{Memory}
-use Rattle.command_io.specs.Statuses.{code_of}
-use Rattle.command_words.specs.Words.{task_in}
+use Rattle.outside.specs.Names.Outside.{OutsideTold}
+use Rattle.commands.specs.declared.io.status.Status.{Status}
+use Rattle.commands.specs.declared.io.status.Status.TheVariants.{Memory}
+use Rattle.commands.specs.Io.Statuses.{code_of}
+use Rattle.commands.specs.Words.Words.{task_in}
 use Rattle.tase_tool.specs.Running.{RunsTask}
 
 -- words in memory

@@ -1,5 +1,5 @@
 //! What an operator is told of how a server or a client ended.
-use command_io::Status;
+use commands::io::Status;
 use outside_real::Notices;
 use std::alloc::AllocError;
 use std::io::Eprint;

@@ -5,11 +5,10 @@ ghost use Rattle.std.specs.Process.{exit_status};
 ghost use Rattle.tase_main.specs.Starting.{IsWordsFrom, IsStart, Starts, surroundings_of};
 
 use crate::ending::{is_of_connections, tell_end};
-use command_io::Status;
+use commands::io::Status;
 use job_threads::ThreadSpawner;
-use outside_links::Listener;
-use outside_names::Outside;
-use server_jobs::NodeJob;
+use outside::links::Listener;
+use outside::names::Outside;
 use std::alloc::{AllocError, Global};
 use std::env::Args;
 use std::io;
@@ -19,6 +18,7 @@ use std::sync::Wait;
 use std::thread::Threads;
 use std::time::Clock;
 use tase_tool::run;
+use tase_tool::serving::jobs::NodeJob;
 
 /// Runs the words that the system gives, once, and answers the exit status that goes with how the
 /// run ended. An operator is told how a server or a client ended.

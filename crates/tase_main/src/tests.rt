@@ -1,5 +1,5 @@
+use outside::names::Outside;
 use outside::{Sink, SinkFailed, read_text, write_all};
-use outside_names::Outside;
 use outside_real::RealOutside;
 use std::test::Fail;
 use std::{env, fs, process};

@@ -3,10 +3,10 @@ use Rattle.std.proofs.Common.{List, ◌++◌, reverse, Option, ap, ◌∙◌, sy
 use Rattle.tase_views.specs.Setup.{Setup}
 use Rattle.tase_views.specs.History.{Past}
 use Rattle.tase_views.specs.declared.event.EventKind.{EventKind}
-use Rattle.tase_map.specs.Inputs.{Item}
-use Rattle.tase_conn.specs.declared.stage.ConnEnd.{ConnEnd}
-use Rattle.conn_laws.specs.Serving.{AreOthers}
-use Rattle.conn_laws.proofs.Seats.{others_none, others_seat}
+use Rattle.conn_service.specs.TaseConn.Map.Inputs.{Item}
+use Rattle.conn_service.specs.TaseConn.declared.stage.ConnEnd.{ConnEnd}
+use Rattle.conn_service.specs.Courses.Serving.{AreOthers}
+use Rattle.conn_service.proofs.OfCourses.Seats.{others_none, others_seat}
 use Rattle.conn_service.specs.Sends.{HasEvents}
 
 -- entries of other seats change none of that

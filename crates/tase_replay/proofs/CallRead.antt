@@ -4,10 +4,10 @@ use Rattle.std.proofs.Common.{ap, subst}
 use Rattle.std.specs.Prelude.{if◌then◌else◌, option_and_then}
 use Rattle.std.proofs.lemmas.Option.{option_and_then_some, none-some, same_Some}
 use Rattle.tase_views.specs.declared.call.CallKind.{CallKind}
-use Rattle.event_text.specs.CallWords.{SpellsCall, AreCallWords}
-use Rattle.journal_text.specs.CallIn.{call_in}
-use Rattle.journal_text.proofs.CallRead as whole
-use Rattle.tase_map.specs.Asked.{is_odd}
+use Rattle.texts.specs.Events.CallWords.{SpellsCall, AreCallWords}
+use Rattle.texts.specs.Journal.CallIn.{call_in}
+use Rattle.texts.proofs.OfJournal.CallRead as whole
+use Rattle.conn_service.specs.TaseConn.Map.Asked.{is_odd}
 use Rattle.tase_replay.specs.CallIn.{call_of_words}
 
 abbrev unless_odd : CallKind → Option CallKind

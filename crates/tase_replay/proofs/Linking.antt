@@ -20,14 +20,14 @@ use Rattle.tase_views.specs.declared.event.EventKind.{EventKind}
 use Rattle.tase_views.specs.declared.event.EventKind.TheVariants as events
 use Rattle.tase_views.specs.declared.fault.StepFault.{StepFault}
 use Rattle.tase_views.specs.declared.fault.StepFault.TheVariants as faults
-use Rattle.tase_map.specs.Inputs.{Item}
-use Rattle.tase_map.specs.Asks.{asks_of, AreInTurn}
-use Rattle.tase_map.specs.Sent.{events_by, with_event}
-use Rattle.tase_conn.specs.declared.stage.ConnEnd.{ConnEnd}
-use Rattle.tase_conn.specs.declared.stage.ConnEnd.TheVariants as conn_ends
-use Rattle.tase_map.specs.Linked.{link_octets}
-use Rattle.tase_conn.specs.PeerEnd.{peer_end}
-use Rattle.conn_laws.specs.AnswerEnd.{end_answered}
+use Rattle.conn_service.specs.TaseConn.Map.Inputs.{Item}
+use Rattle.conn_service.specs.TaseConn.Map.Asks.{asks_of, AreInTurn}
+use Rattle.conn_service.specs.TaseConn.Map.Sent.{events_by, with_event}
+use Rattle.conn_service.specs.TaseConn.declared.stage.ConnEnd.{ConnEnd}
+use Rattle.conn_service.specs.TaseConn.declared.stage.ConnEnd.TheVariants as conn_ends
+use Rattle.conn_service.specs.TaseConn.Map.Linked.{link_octets}
+use Rattle.conn_service.specs.TaseConn.PeerEnd.{peer_end}
+use Rattle.conn_service.specs.Courses.AnswerEnd.{end_answered}
 use Rattle.conn_service.specs.Served.{Served, served, served_by, with_closed}
 use Rattle.conn_service.specs.Sends.{close_of}
 use Rattle.conn_service.specs.Attending.{TakesEvents, TakesTo}

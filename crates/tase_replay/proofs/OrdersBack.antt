@@ -19,9 +19,9 @@ use Rattle.tase_views.specs.View.{moves_in}
 use Rattle.tase_views.specs.Orders.{orders_taken, orders_left}
 use Rattle.tase_views.specs.Outcomes.{refusal_of}
 use Rattle.tase_views.proofs.OrdersGiven.{taken_and_left}
-use Rattle.tase_conn.specs.declared.stage.ConnEnd.{ConnEnd}
-use Rattle.tase_conn.specs.declared.stage.ConnEnd.TheVariants as conn_ends
-use Rattle.tase_conn.specs.PeerEnd.{peer_end}
+use Rattle.conn_service.specs.TaseConn.declared.stage.ConnEnd.{ConnEnd}
+use Rattle.conn_service.specs.TaseConn.declared.stage.ConnEnd.TheVariants as conn_ends
+use Rattle.conn_service.specs.TaseConn.PeerEnd.{peer_end}
 use Rattle.conn_service.specs.Served.{Served, with_closed}
 use Rattle.conn_service.specs.Sends.{close_of}
 use Rattle.tase_replay.specs.Lines.{entry_by}

@@ -21,17 +21,17 @@ use Rattle.tase_views.specs.History.{Past}
 use Rattle.tase_views.specs.OwnTables.{Owns}
 use Rattle.tase_views.specs.Outcomes.{refusal_of, answer_of, answer_at}
 use Rattle.tase_views.specs.Orders.{orders_taken}
-use Rattle.event_text.specs.ReplyTexts.{reply_text}
-use Rattle.report_text.specs.ReportTexts.{report_text}
-use Rattle.tase_map.specs.Inputs.{Item}
-use Rattle.tase_map.specs.Turns.{Turn}
-use Rattle.tase_map.specs.Turns as turns
-use Rattle.tase_map.specs.Asks.{asks_of, asks_at, asks_behind, open_of, event_if, is_open_behind}
-use Rattle.tase_map.specs.Asks.{up_to_last}
-use Rattle.tase_map.specs.Turns.{turns_of}
-use Rattle.tase_map.specs.Sent.{with_event}
-use Rattle.tase_conn.specs.declared.stage.ConnEnd.{ConnEnd}
-use Rattle.conn_laws.specs.AnswerEnd.{end_answered}
+use Rattle.texts.specs.Events.ReplyTexts.{reply_text}
+use Rattle.texts.specs.Reports.ReportTexts.{report_text}
+use Rattle.conn_service.specs.TaseConn.Map.Inputs.{Item}
+use Rattle.conn_service.specs.TaseConn.Map.Turns.{Turn}
+use Rattle.conn_service.specs.TaseConn.Map.Turns as turns
+use Rattle.conn_service.specs.TaseConn.Map.Asks.{asks_of, asks_at, asks_behind, open_of, event_if, is_open_behind}
+use Rattle.conn_service.specs.TaseConn.Map.Asks.{up_to_last}
+use Rattle.conn_service.specs.TaseConn.Map.Turns.{turns_of}
+use Rattle.conn_service.specs.TaseConn.Map.Sent.{with_event}
+use Rattle.conn_service.specs.TaseConn.declared.stage.ConnEnd.{ConnEnd}
+use Rattle.conn_service.specs.Courses.AnswerEnd.{end_answered}
 use Rattle.conn_service.specs.Served.{Served, served, served_by}
 use Rattle.conn_service.specs.Sends.{close_of}
 use Rattle.tase_replay.specs.Links.{asks_more, line_of_out, line_of_end, end_text}
@@ -44,7 +44,7 @@ use Rattle.tase_replay.proofs.Printable.{IsPrintable, of_words, printable-append
 use Rattle.tase_replay.proofs.Printable.{reply-printable, report-printable, order-printable}
 use Rattle.tase_replay.proofs.Printable.{end-printable}
 use Rattle.tase_replay.proofs.PrintedBack.{line-printable}
-use Rattle.journal_text.proofs.TextLines.{lines-more}
+use Rattle.texts.proofs.OfJournal.TextLines.{lines-more}
 
 -- ---- events
 

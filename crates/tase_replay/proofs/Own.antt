@@ -4,18 +4,18 @@ use Rattle.std.proofs.Common.{Some, None, sym, ap, subst, ◌∙◌}
 use Rattle.std.specs.Prelude.{if◌then◌else◌, option_map}
 use Rattle.std.proofs.lemmas.Option.{get_or_from_slice_get}
 use Rattle.bilateral.specs.Rows.{CentreRows}
-use Rattle.tase_conn.specs.Talking.{Talking}
+use Rattle.conn_service.specs.TaseConn.Talking.{Talking}
 use Rattle.tase_views.specs.Setup.{Setup}
 use Rattle.tase_views.specs.declared.event.Entry.{Entry}
 use Rattle.tase_views.specs.Outcomes.{refusal_of}
-use Rattle.node_core.proofs.Outcomes.{reverse_push}
+use Rattle.conn_service.proofs.NodeCore.Outcomes.{reverse_push}
 use Rattle.tase_replay.specs.declared.entries.LineRequest.{LineRequest}
 use Rattle.tase_replay.specs.declared.links.Seats.{Seats}
 use Rattle.tase_replay.specs.Links.{SeatItem, asking_in, asking_seen, items_of}
 use Rattle.tase_replay.specs.Play.{Scene, LineMeaning, entry_meaning, scene_by}
 use Rattle.tase_replay.specs.Play.{bad}
 use Rattle.tase_replay.specs.Play.{received, is_unfit, linked_by, served_item}
-use Rattle.tase_conn.specs.PeerEnd.{peer_end}
+use Rattle.conn_service.specs.TaseConn.PeerEnd.{peer_end}
 use Rattle.tase_replay.specs.Standing.{IsScene, NotesUse, Finds, Awaits, LinkGoesOn}
 use Rattle.tase_replay.proofs.Entering.{accepted_so}
 use Rattle.tase_replay.proofs.Seating.{own_unlinked, own_sits}

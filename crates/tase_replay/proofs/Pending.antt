@@ -7,8 +7,8 @@ use Rattle.std.proofs.lemmas.List.{append-nil, drop_all, length-append}
 use Rattle.std.proofs.lemmas.Grind.{flat_map-append}
 use Rattle.std.proofs.Math.Seq.{drop-append_seam}
 use Rattle.plain_text.specs.Octets.{hex_text, hex_pair}
-use Rattle.tase_conn.specs.Talking.{Talking, first_filled, next_pending, pending_of, conn_end_in}
-use Rattle.tase_conn.specs.Taken.{SendsSome}
+use Rattle.conn_service.specs.TaseConn.Talking.{Talking, first_filled, next_pending, pending_of, conn_end_in}
+use Rattle.conn_service.specs.TaseConn.Taken.{SendsSome}
 use Rattle.tase_replay.specs.Links.{line_of_out, line_of_end}
 
 none_first : (out others : List ℕ) → first_filled out others ≡ [] → out ++ others ≡ []

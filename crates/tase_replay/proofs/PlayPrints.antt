@@ -11,7 +11,7 @@ use Rattle.plain_text.specs.Numbers.{if_passes, number_in, number_up_to}
 use Rattle.plain_text.specs.Words.{words_in}
 use Rattle.plain_text.specs.Lines.{is_skipped}
 use Rattle.bilateral.specs.Rows.{CentreRows, place_of_peer}
-use Rattle.event_text.specs.FeedLines.{centre_words_in}
+use Rattle.texts.specs.Events.FeedLines.{centre_words_in}
 use Rattle.tase_views.specs.declared.event.Entry.{Entry}
 use Rattle.tase_views.specs.declared.event.EventKind.{EventKind}
 use Rattle.tase_views.specs.declared.event.EventKind.TheVariants.{Take, Close}
@@ -22,9 +22,9 @@ use Rattle.tase_views.specs.declared.fault.StepFault.TheVariants.{UnknownName, C
 use Rattle.tase_views.specs.Setup.{Setup}
 use Rattle.tase_views.specs.History.{Past, association_in}
 use Rattle.tase_views.specs.Outcomes.{refusal_of}
-use Rattle.tase_map.specs.Inputs.{Item, idle, ended}
-use Rattle.tase_conn.specs.declared.stage.ConnEnd.{ConnEnd}
-use Rattle.tase_conn.specs.declared.stage.ConnEnd.TheVariants as conn_ends
+use Rattle.conn_service.specs.TaseConn.Map.Inputs.{Item, idle, ended}
+use Rattle.conn_service.specs.TaseConn.declared.stage.ConnEnd.{ConnEnd}
+use Rattle.conn_service.specs.TaseConn.declared.stage.ConnEnd.TheVariants as conn_ends
 use Rattle.conn_service.specs.Served.{Served, with_closed}
 use Rattle.conn_service.specs.Sends.{close_of}
 use Rattle.tase_replay.specs.declared.entries.TheConstants.{SEAT_LIMIT}

@@ -18,14 +18,14 @@ use Rattle.mms_data.specs.declared.outcome.Outcome.TheVariants.{Good, Fail}
 use Rattle.mms_data.specs.Datum.{Datum, boolean, integer, unsigned, bits, real, octets, text}
 use Rattle.mms_data.specs.Datum.{structure, array, Data, no_data, datum}
 use Rattle.mms_data.specs.ObjectName.{ObjectName}
-use Rattle.mms_text.specs.Texts.{data_text, members_text, further_text, outcome_text, scope_text}
+use Rattle.mms_data.specs.Text.Texts.{data_text, members_text, further_text, outcome_text, scope_text}
 use Rattle.ber_values.specs.declared.fault.Why.{Why}
 use Rattle.ber_values.specs.declared.fault.Why.TheVariants as whys
-use Rattle.stack_messages.specs.declared.fault.Layer.{Layer}
-use Rattle.stack_messages.specs.declared.fault.Layer.TheVariants as layers
-use Rattle.stream_listing.specs.Names.{layer_name, why_name}
-use Rattle.tase_conn.specs.declared.stage.ConnEnd.{ConnEnd}
-use Rattle.tase_conn.specs.declared.stage.ConnEnd.TheVariants as conn_ends
+use Rattle.stack_assoc.specs.declared.messages.fault.Layer.{Layer}
+use Rattle.stack_assoc.specs.declared.messages.fault.Layer.TheVariants as layers
+use Rattle.stack_assoc.specs.Listing.Names.{layer_name, why_name}
+use Rattle.conn_service.specs.TaseConn.declared.stage.ConnEnd.{ConnEnd}
+use Rattle.conn_service.specs.TaseConn.declared.stage.ConnEnd.TheVariants as conn_ends
 use Rattle.tase_views.specs.declared.reply.ReplyKind.{ReplyKind}
 use Rattle.tase_views.specs.declared.reply.ReplyKind.TheVariants.{Identified, Results, Written}
 use Rattle.tase_views.specs.declared.reply.ReplyKind.TheVariants.{NamesAre, Defined, MembersAre}
@@ -33,8 +33,8 @@ use Rattle.tase_views.specs.declared.reply.ReplyKind.TheVariants.{Deleted, Error
 use Rattle.tase_views.specs.declared.reply.ReportKind.{ReportKind}
 use Rattle.tase_views.specs.declared.reply.ReportKind.TheVariants.{Set, Variables}
 use Rattle.tase_views.specs.EventTexts.{read_verb, next_name}
-use Rattle.event_text.specs.ReplyTexts.{result_text, written_text, item_text, more_text, reply_text}
-use Rattle.report_text.specs.ReportTexts.{next_outcome, told_text, report_text}
+use Rattle.texts.specs.Events.ReplyTexts.{result_text, written_text, item_text, more_text, reply_text}
+use Rattle.texts.specs.Reports.ReportTexts.{next_outcome, told_text, report_text}
 use Rattle.tase_replay.specs.Links.{end_text}
 use Rattle.tase_replay.specs.Play.{order_words}
 

@@ -28,14 +28,14 @@ use Rattle.ber_values.specs.Octets.{IsOctets}
 use Rattle.ber_values.proofs.BitsLemmas.{list_all-octets}
 use Rattle.bilateral.specs.Rows.{CentreRows}
 use Rattle.sbo_device.specs.declared.order.Order.{Order}
-use Rattle.tase_conn.specs.declared.stage.ConnEnd.{ConnEnd}
+use Rattle.conn_service.specs.TaseConn.declared.stage.ConnEnd.{ConnEnd}
 use Rattle.tase_views.specs.declared.reply.ReplyKind.{ReplyKind}
 use Rattle.tase_views.specs.declared.reply.ReportKind.{ReportKind}
 use Rattle.tase_views.specs.declared.reply.Answer.{Answer}
 use Rattle.tase_views.specs.declared.reply.Answer.TheVariants.{Opened, Reply, Reports, Closed}
 use Rattle.tase_views.specs.declared.reply.Answer.TheVariants.{Orders, Noted}
-use Rattle.event_text.specs.ReplyTexts.{reply_text}
-use Rattle.report_text.specs.ReportTexts.{report_text}
+use Rattle.texts.specs.Events.ReplyTexts.{reply_text}
+use Rattle.texts.specs.Reports.ReportTexts.{report_text}
 use Rattle.tase_replay.specs.Links.{line_of_out, line_of_end, end_text}
 use Rattle.tase_replay.specs.Play.{Step, printed_of, line_of_reply, line_of_report, order_words}
 use Rattle.tase_replay.specs.Play.{line_of_order, printed_in}
@@ -47,7 +47,7 @@ use Rattle.tase_replay.specs.Standing.{HasOctets}
 use Rattle.tase_replay.proofs.Printable.{IsPrintable, of_words, printable-append, printable-cons}
 use Rattle.tase_replay.proofs.Printable.{decimal-printable, hex-printable, reply-printable}
 use Rattle.tase_replay.proofs.Printable.{report-printable, order-printable, end-printable}
-use Rattle.journal_text.proofs.TextLines.{lines-more}
+use Rattle.texts.proofs.OfJournal.TextLines.{lines-more}
 
 -- ---- which steps these are
 

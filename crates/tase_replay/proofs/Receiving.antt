@@ -16,35 +16,35 @@ use Rattle.tase_views.specs.declared.event.EventKind.{EventKind}
 use Rattle.tase_views.specs.declared.fault.StepFault.{StepFault}
 use Rattle.tase_views.specs.declared.fault.StepFault.TheVariants as faults
 use Rattle.stack_assoc.specs.Arrivals.{Arrival}
-use Rattle.tase_map.specs.Inputs.{Item, piece, idle, ended, IsLinkInput, text_given}
-use Rattle.tase_map.specs.Inputs.{link_has_ended as items_end}
-use Rattle.tase_map.specs.Readings.{reading_of}
-use Rattle.stack_messages.specs.declared.fault.StackFault.{StackFault}
-use Rattle.tase_map.specs.Turns.{Turn, offers, offers_badly, asks, concludes, releases, aborts}
-use Rattle.tase_map.specs.Turns.{breaks, ends as link_ends, pauses, turns_of, turns_told}
-use Rattle.tase_map.specs.Asks.{asks_of, is_last}
-use Rattle.tase_map.specs.Out.{end_turns}
-use Rattle.tase_map.specs.Sent.{events_by}
-use Rattle.tase_map.proofs.InTurn.{asked_in_turn}
-use Rattle.tase_map.proofs.Uncut.{any_kept}
-use Rattle.tase_conn.specs.declared.stage.PendingEvent.TheVariants as askeds
-use Rattle.tase_conn.specs.declared.stage.ConnEnd.{ConnEnd}
-use Rattle.tase_conn.specs.declared.stage.ConnEnd.TheVariants as conn_ends
-use Rattle.tase_conn.specs.declared.stage.Progress.{Progress}
-use Rattle.tase_conn.specs.declared.stage.Progress.TheVariants as progresses
-use Rattle.tase_conn.specs.Talking.{Talking, pending_of, conn_end_in, IsResting, IsFree}
-use Rattle.tase_conn.specs.Places.{ConnStandsAt, Runs, Reach, GoesBy}
-use Rattle.tase_conn.specs.Taken.{TakesIn, SendsSome}
-use Rattle.conn_laws.specs.Serving.{IsWaiting, Serves}
-use Rattle.conn_laws.proofs.Kept.{taken_serves}
-use Rattle.conn_laws.proofs.Resumed.{sent_serves}
-use Rattle.conn_laws.proofs.Served.{has_served, all_done}
-use Rattle.conn_laws.proofs.Texts.{text_turns}
-use Rattle.conn_laws.proofs.TurnLists.{any_back}
+use Rattle.conn_service.specs.TaseConn.Map.Inputs.{Item, piece, idle, ended, IsLinkInput, text_given}
+use Rattle.conn_service.specs.TaseConn.Map.Inputs.{link_has_ended as items_end}
+use Rattle.conn_service.specs.TaseConn.Map.Readings.{reading_of}
+use Rattle.stack_assoc.specs.declared.messages.fault.StackFault.{StackFault}
+use Rattle.conn_service.specs.TaseConn.Map.Turns.{Turn, offers, offers_badly, asks, concludes, releases, aborts}
+use Rattle.conn_service.specs.TaseConn.Map.Turns.{breaks, ends as link_ends, pauses, turns_of, turns_told}
+use Rattle.conn_service.specs.TaseConn.Map.Asks.{asks_of, is_last}
+use Rattle.conn_service.specs.TaseConn.Map.Out.{end_turns}
+use Rattle.conn_service.specs.TaseConn.Map.Sent.{events_by}
+use Rattle.conn_service.proofs.TaseConn.OfMap.InTurn.{asked_in_turn}
+use Rattle.conn_service.proofs.TaseConn.OfMap.Uncut.{any_kept}
+use Rattle.conn_service.specs.TaseConn.declared.stage.PendingEvent.TheVariants as askeds
+use Rattle.conn_service.specs.TaseConn.declared.stage.ConnEnd.{ConnEnd}
+use Rattle.conn_service.specs.TaseConn.declared.stage.ConnEnd.TheVariants as conn_ends
+use Rattle.conn_service.specs.TaseConn.declared.stage.Progress.{Progress}
+use Rattle.conn_service.specs.TaseConn.declared.stage.Progress.TheVariants as progresses
+use Rattle.conn_service.specs.TaseConn.Talking.{Talking, pending_of, conn_end_in, IsResting, IsFree}
+use Rattle.conn_service.specs.TaseConn.Places.{ConnStandsAt, Runs, Reach, GoesBy}
+use Rattle.conn_service.specs.TaseConn.Taken.{TakesIn, SendsSome}
+use Rattle.conn_service.specs.Courses.Serving.{IsWaiting, Serves}
+use Rattle.conn_service.proofs.OfCourses.Kept.{taken_serves}
+use Rattle.conn_service.proofs.OfCourses.Resumed.{sent_serves}
+use Rattle.conn_service.proofs.OfCourses.Served.{has_served, all_done}
+use Rattle.conn_service.proofs.OfCourses.Texts.{text_turns}
+use Rattle.conn_service.proofs.OfCourses.TurnLists.{any_back}
 use Rattle.conn_service.specs.Attending.{AddsPending, Attends, IsServedTo, TakesEvents, IsNodesEnd}
 use Rattle.conn_service.specs.Attending.{TakesTo, IsBrought}
-use Rattle.tase_map.specs.Linked.{link_octets}
-use Rattle.tase_conn.specs.PeerEnd.{peer_end, end_at, last_turn}
+use Rattle.conn_service.specs.TaseConn.Map.Linked.{link_octets}
+use Rattle.conn_service.specs.TaseConn.PeerEnd.{peer_end, end_at, last_turn}
 use Rattle.conn_service.proofs.Closed.{cut_sends}
 use Rattle.tase_replay.specs.declared.playing.ReplayEnd.{ReplayEnd}
 use Rattle.tase_replay.specs.declared.playing.ReplayEnd.TheVariants.{Done, Full, Memory}

@@ -12,14 +12,14 @@ use Rattle.std.proofs.lemmas.List.Elements.{filter_map-append}
 use Rattle.bilateral.specs.Rows.{CentreRows}
 use Rattle.tase_views.specs.declared.event.Entry.{Entry}
 use Rattle.tase_views.specs.History.{Past}
-use Rattle.tase_map.specs.Inputs.{Item}
-use Rattle.tase_map.specs.Sent.{events_by}
-use Rattle.tase_conn.specs.declared.stage.ConnEnd.{ConnEnd}
-use Rattle.tase_conn.specs.declared.stage.Progress.{Progress}
-use Rattle.tase_conn.specs.Talking.{Talking, conn_end_in}
-use Rattle.conn_laws.specs.Serving.{Serves, AreOthers}
-use Rattle.conn_laws.proofs.Kept.{begun_serves, others_serve}
-use Rattle.tase_map.specs.Linked.{link_octets}
+use Rattle.conn_service.specs.TaseConn.Map.Inputs.{Item}
+use Rattle.conn_service.specs.TaseConn.Map.Sent.{events_by}
+use Rattle.conn_service.specs.TaseConn.declared.stage.ConnEnd.{ConnEnd}
+use Rattle.conn_service.specs.TaseConn.declared.stage.Progress.{Progress}
+use Rattle.conn_service.specs.TaseConn.Talking.{Talking, conn_end_in}
+use Rattle.conn_service.specs.Courses.Serving.{Serves, AreOthers}
+use Rattle.conn_service.proofs.OfCourses.Kept.{begun_serves, others_serve}
+use Rattle.conn_service.specs.TaseConn.Map.Linked.{link_octets}
 use Rattle.tase_replay.specs.declared.links.Seats.{Seats}
 use Rattle.tase_replay.specs.declared.links.Use.{Use}
 use Rattle.tase_replay.specs.declared.links.Use.TheVariants as uses

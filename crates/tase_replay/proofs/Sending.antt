@@ -12,13 +12,13 @@ use Rattle.tase_views.specs.Outcomes.{refusal_of}
 use Rattle.tase_views.specs.declared.event.Entry.{Entry}
 use Rattle.tase_views.specs.declared.event.EventKind.{EventKind}
 use Rattle.tase_views.specs.declared.fault.StepFault.{StepFault}
-use Rattle.tase_map.specs.Inputs.{Item}
-use Rattle.tase_map.specs.Asks.{asks_of}
-use Rattle.tase_map.specs.Sent.{events_by}
-use Rattle.tase_conn.specs.declared.stage.ConnEnd.{ConnEnd}
-use Rattle.tase_conn.specs.Talking.{Talking, pending_of}
-use Rattle.conn_laws.specs.Serving.{AreOthers}
-use Rattle.tase_map.specs.Linked.{link_octets}
+use Rattle.conn_service.specs.TaseConn.Map.Inputs.{Item}
+use Rattle.conn_service.specs.TaseConn.Map.Asks.{asks_of}
+use Rattle.conn_service.specs.TaseConn.Map.Sent.{events_by}
+use Rattle.conn_service.specs.TaseConn.declared.stage.ConnEnd.{ConnEnd}
+use Rattle.conn_service.specs.TaseConn.Talking.{Talking, pending_of}
+use Rattle.conn_service.specs.Courses.Serving.{AreOthers}
+use Rattle.conn_service.specs.TaseConn.Map.Linked.{link_octets}
 use Rattle.tase_replay.specs.Links.{SeatItem, items_of}
 use Rattle.tase_replay.specs.Play.{Step, Scene, bad, with_taken, step_of, meaning_of}
 use Rattle.tase_replay.specs.Play.{entry_meaning, is_linked, received, behind_link, link_step}

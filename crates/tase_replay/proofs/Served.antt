@@ -6,12 +6,12 @@ use Rattle.tase_views.specs.History.{Past}
 use Rattle.tase_views.specs.Outcomes.{refusal_of, answer_of}
 use Rattle.tase_views.specs.declared.event.EventKind.{EventKind}
 use Rattle.tase_views.specs.declared.fault.StepFault.{StepFault}
-use Rattle.tase_map.specs.Inputs.{Item}
-use Rattle.tase_map.specs.Asks.{AreInTurn}
-use Rattle.tase_map.specs.Sent.{events_by, with_event}
-use Rattle.tase_map.proofs.Unrefused.{unrefused}
-use Rattle.tase_conn.specs.declared.stage.ConnEnd.{ConnEnd}
-use Rattle.conn_laws.specs.AnswerEnd.{end_answered}
+use Rattle.conn_service.specs.TaseConn.Map.Inputs.{Item}
+use Rattle.conn_service.specs.TaseConn.Map.Asks.{AreInTurn}
+use Rattle.conn_service.specs.TaseConn.Map.Sent.{events_by, with_event}
+use Rattle.conn_service.proofs.TaseConn.OfMap.Unrefused.{unrefused}
+use Rattle.conn_service.specs.TaseConn.declared.stage.ConnEnd.{ConnEnd}
+use Rattle.conn_service.specs.Courses.AnswerEnd.{end_answered}
 use Rattle.conn_service.specs.Served.{Served, served, served_by}
 use Rattle.conn_service.specs.Attending.{TakesTo, TakesEvents}
 use Rattle.conn_service.proofs.Takes.{each_served, takes_each, behind_taken, event_behind}

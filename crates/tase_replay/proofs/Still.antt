@@ -12,17 +12,17 @@ use Rattle.tase_views.specs.declared.event.EventKind.{EventKind}
 use Rattle.tase_views.specs.declared.event.EventKind.TheVariants as events
 use Rattle.tase_views.specs.Moves.{sort_of}
 use Rattle.tase_views.specs.History.{Past, association_in, association_after}
-use Rattle.tase_map.specs.Closed.{is_closed}
-use Rattle.tase_map.specs.Inputs.{Item, text_given, link_has_ended}
-use Rattle.tase_map.specs.Readings.{Reading, reading_of}
-use Rattle.tase_map.specs.Out.{refusal_octets}
-use Rattle.tase_map.specs.Sent.{events_by, with_event}
-use Rattle.tase_map.proofs.ReadingLaws.{reading, reading_only}
-use Rattle.tase_map.proofs.TurnOrder.{nothing_said}
-use Rattle.conn_laws.specs.Serving.{AreOthers}
-use Rattle.conn_laws.proofs.Seats.{at_seat, close_closes, closed_still, others_sent}
-use Rattle.conn_laws.proofs.Seats.{others_opened, none_opened}
-use Rattle.tase_map.specs.Linked.{opened_in, opened_by, octets_by, link_octets}
+use Rattle.conn_service.specs.TaseConn.Map.Closed.{is_closed}
+use Rattle.conn_service.specs.TaseConn.Map.Inputs.{Item, text_given, link_has_ended}
+use Rattle.conn_service.specs.TaseConn.Map.Readings.{Reading, reading_of}
+use Rattle.conn_service.specs.TaseConn.Map.Out.{refusal_octets}
+use Rattle.conn_service.specs.TaseConn.Map.Sent.{events_by, with_event}
+use Rattle.conn_service.proofs.TaseConn.OfMap.ReadingLaws.{reading, reading_only}
+use Rattle.conn_service.proofs.TaseConn.OfMap.TurnOrder.{nothing_said}
+use Rattle.conn_service.specs.Courses.Serving.{AreOthers}
+use Rattle.conn_service.proofs.OfCourses.Seats.{at_seat, close_closes, closed_still, others_sent}
+use Rattle.conn_service.proofs.OfCourses.Seats.{others_opened, none_opened}
+use Rattle.conn_service.specs.TaseConn.Map.Linked.{opened_in, opened_by, octets_by, link_octets}
 
 -- ---- the association that a seat has opened last
 

@@ -11,7 +11,7 @@ use Rattle.outside.proofs.Writing.{Appends-none, Appends-append, AppendsPart-non
 use Rattle.outside.proofs.Writing.{AppendsPart-append}
 use Rattle.tase_views.specs.declared.event.Entry.{Entry}
 use Rattle.tase_replay.specs.Play.{Step, entries_in, printed_in}
-use Rattle.tase_conn.specs.declared.stage.ConnEnd.{ConnEnd}
+use Rattle.conn_service.specs.TaseConn.declared.stage.ConnEnd.{ConnEnd}
 use Rattle.tase_replay.specs.PrintedLines.{ShownToPeer, sent_octet, end_shown, all_shown, shown_by}
 use Rattle.tase_replay.specs.PrintedLines.{step_shows}
 use Rattle.tase_replay.specs.Ends.{TakesAll, TakesPart}

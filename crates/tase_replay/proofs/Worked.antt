@@ -13,8 +13,8 @@ use Rattle.mms_data.specs.Datum.{integer, bits}
 use Rattle.mms_data.specs.declared.object_name.Scope.TheVariants.{Domain}
 use Rattle.mms_data.specs.declared.outcome.Outcome.TheVariants.{Good}
 use Rattle.mms_data.specs.ObjectName.{ObjectName}
-use Rattle.mms_text.specs.DatumIn.{datum_in}
-use Rattle.mms_text.proofs.TextReading.{datum_in-text}
+use Rattle.mms_data.specs.Text.DatumIn.{datum_in}
+use Rattle.mms_data.proofs.OfText.TextReading.{datum_in-text}
 use Rattle.tase_views.specs.declared.call.CallKind.TheVariants.{Write, WriteSet}
 use Rattle.tase_views.specs.declared.event.EventKind.TheVariants.{Request}
 use Rattle.tase_views.specs.declared.event.Entry.{Entry}

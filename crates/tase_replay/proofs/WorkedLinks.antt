@@ -13,19 +13,19 @@ use Rattle.mms_services.specs.Identities.{identify_response_octets}
 use Rattle.mms_services.specs.Initiates.{initiate_octets, later_octets}
 use Rattle.mms_services.specs.Initiates.{last_octets, initiate_detail_octets}
 use Rattle.mms_services.specs.PduOctets.{pdu_octets, response_octets, invoke_octets}
-use Rattle.stack_wire.specs.Tsdus.{accept_tsdu, refusal_tsdu, abort_tsdu, data_tsdu}
+use Rattle.stack_assoc.specs.Wire.Tsdus.{accept_tsdu, refusal_tsdu, abort_tsdu, data_tsdu}
 use Rattle.bilateral.specs.Rows.{CentreRows}
 use Rattle.bilateral.specs.Reading.{centre_in}
 use Rattle.tase_views.specs.declared.call.CallKind.TheVariants.{Identify}
 use Rattle.tase_views.specs.declared.event.EventKind.TheVariants.{Open, Request, Take, Close, Stop}
 use Rattle.tase_views.specs.History.{Past}
 use Rattle.tase_views.specs.Setup.{Setup}
-use Rattle.tase_map.specs.Inputs.{piece}
-use Rattle.tase_map.specs.Inputs as inputs
-use Rattle.tase_conn.specs.declared.stage.ConnEnd.{ConnEnd}
-use Rattle.tase_conn.specs.declared.stage.ConnEnd.TheVariants as conn_ends
-use Rattle.stack_messages.proofs.Worked.{wanted}
-use Rattle.tase_map.proofs.WorkedStream.{read_none}
+use Rattle.conn_service.specs.TaseConn.Map.Inputs.{piece}
+use Rattle.conn_service.specs.TaseConn.Map.Inputs as inputs
+use Rattle.conn_service.specs.TaseConn.declared.stage.ConnEnd.{ConnEnd}
+use Rattle.conn_service.specs.TaseConn.declared.stage.ConnEnd.TheVariants as conn_ends
+use Rattle.stack_assoc.proofs.OfMessages.Worked.{wanted}
+use Rattle.conn_service.proofs.TaseConn.OfMap.WorkedStream.{read_none}
 use Rattle.tase_replay.specs.Lines.{entry_by}
 use Rattle.tase_replay.specs.Links.{Asking, an_item, asking_in, SeatItem, given_by}
 use Rattle.tase_replay.specs.Play.{Scene, Step, entry_step, LineMeaning, gives, too_heavy, means}

@@ -23,21 +23,21 @@ use Rattle.presentation_profile.specs.declared.expected.Expected.TheVariants as 
 use Rattle.presentation_profile.specs.UserData.{user_data}
 use Rattle.presentation_profile.specs.Ppdus.{ppdu}
 use Rattle.presentation_profile.proofs.PpdusRead.{ppdu_reads}
-use Rattle.stack_messages.specs.declared.fault.Layer.{Layer}
-use Rattle.stack_messages.specs.declared.fault.Layer.TheVariants as layers
-use Rattle.stack_messages.specs.declared.fault.StackFault.{StackFault}
-use Rattle.stack_messages.specs.Meanings.{inside}
-use Rattle.stack_messages.specs.Layers.{octets_at, in_layer, fault_of, spdu_of, ppdu_at}
-use Rattle.stack_messages.specs.Messages.{carry_at, message}
+use Rattle.stack_assoc.specs.declared.messages.fault.Layer.{Layer}
+use Rattle.stack_assoc.specs.declared.messages.fault.Layer.TheVariants as layers
+use Rattle.stack_assoc.specs.declared.messages.fault.StackFault.{StackFault}
+use Rattle.stack_assoc.specs.Messages.Meanings.{inside}
+use Rattle.stack_assoc.specs.Messages.Layers.{octets_at, in_layer, fault_of, spdu_of, ppdu_at}
+use Rattle.stack_assoc.specs.Messages.Messages.{carry_at, message}
 use Rattle.stack_assoc.proofs.FrontsKept.{stopped_front}
-use Rattle.tase_map.specs.Inputs.{Item, piece, text_given}
-use Rattle.tase_map.specs.Readings.{reading_of}
-use Rattle.tase_map.proofs.ReadingLaws.{reading_only}
-use Rattle.stack_messages.proofs.Worked.{span, connecting_octets, identify_octets, answering}
-use Rattle.stack_messages.proofs.Worked.{connect_heard}
-use Rattle.tase_map.proofs.WorkedStream.{opener}
-use Rattle.tase_map.proofs.WorkedStream.{first, second, third, reads, one, two, three}
-use Rattle.tase_map.proofs.WorkedStream.{read_first, read_second, read_third}
+use Rattle.conn_service.specs.TaseConn.Map.Inputs.{Item, piece, text_given}
+use Rattle.conn_service.specs.TaseConn.Map.Readings.{reading_of}
+use Rattle.conn_service.proofs.TaseConn.OfMap.ReadingLaws.{reading_only}
+use Rattle.stack_assoc.proofs.OfMessages.Worked.{span, connecting_octets, identify_octets, answering}
+use Rattle.stack_assoc.proofs.OfMessages.Worked.{connect_heard}
+use Rattle.conn_service.proofs.TaseConn.OfMap.WorkedStream.{opener}
+use Rattle.conn_service.proofs.TaseConn.OfMap.WorkedStream.{first, second, third, reads, one, two, three}
+use Rattle.conn_service.proofs.TaseConn.OfMap.WorkedStream.{read_first, read_second, read_third}
 use Rattle.ber_values.specs.Heads.{head_by, extent_of, extent_within}
 use Rattle.ber_values.specs.Extents.{definite}
 

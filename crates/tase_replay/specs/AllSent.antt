@@ -9,9 +9,9 @@ use Rattle.bilateral.specs.Rows.{CentreRows}
 use Rattle.tase_views.specs.declared.event.Entry.{Entry}
 use Rattle.tase_views.specs.Setup.{Setup}
 use Rattle.tase_views.specs.History.{Past}
-use Rattle.tase_map.specs.Inputs.{Item}
-use Rattle.tase_conn.specs.declared.stage.ConnEnd.{ConnEnd}
-use Rattle.tase_map.specs.Linked.{link_octets}
+use Rattle.conn_service.specs.TaseConn.Map.Inputs.{Item}
+use Rattle.conn_service.specs.TaseConn.declared.stage.ConnEnd.{ConnEnd}
+use Rattle.conn_service.specs.TaseConn.Map.Linked.{link_octets}
 use Rattle.conn_service.specs.Sends.{Sends}
 use Rattle.tase_replay.specs.declared.playing.ReplayEnd.{ReplayEnd}
 use Rattle.tase_replay.specs.declared.playing.ReplayEnd.TheVariants as replay_ends

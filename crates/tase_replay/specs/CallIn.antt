@@ -1,8 +1,8 @@
 -- The call that the words behind `say W` spell.
 use Rattle.std.specs.Prelude.{ℕ, if◌then◌else◌, List, Option, Some, None, option_and_then}
 use Rattle.tase_views.specs.declared.call.CallKind.{CallKind}
-use Rattle.journal_text.specs.CallIn.{call_in}
-use Rattle.tase_map.specs.Asked.{is_odd}
+use Rattle.texts.specs.Journal.CallIn.{call_in}
+use Rattle.conn_service.specs.TaseConn.Map.Asked.{is_odd}
 
 -- the call that words spell, but an odd one
 abbrev pub call_of_words : List (List ℕ) → Option CallKind

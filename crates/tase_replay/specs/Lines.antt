@@ -7,7 +7,7 @@ use Rattle.bilateral.specs.Rows.{CentreRows, place_of_peer}
 use Rattle.tase_views.specs.declared.event.EventKind.{EventKind}
 use Rattle.tase_views.specs.declared.event.EventKind.TheVariants.{Open, Request, Take, Close}
 use Rattle.tase_views.specs.declared.event.Entry.{Entry}
-use Rattle.event_text.specs.FeedLines.{centre_words_in}
+use Rattle.texts.specs.Events.FeedLines.{centre_words_in}
 use Rattle.tase_replay.specs.declared.entries.TheConstants.{SEAT_LIMIT}
 use Rattle.tase_replay.specs.CallIn.{call_of_words}
 

@@ -11,13 +11,13 @@ use Rattle.plain_text.specs.Numbers.{if_passes}
 use Rattle.plain_text.specs.Octets.{hex_text}
 use Rattle.plain_text.specs.Words.{words_in}
 use Rattle.bilateral.specs.Rows.{CentreRows}
-use Rattle.stack_messages.specs.declared.fault.StackFault.{StackFault}
-use Rattle.stream_listing.specs.Names.{layer_name, why_name}
+use Rattle.stack_assoc.specs.declared.messages.fault.StackFault.{StackFault}
+use Rattle.stack_assoc.specs.Listing.Names.{layer_name, why_name}
 use Rattle.tase_views.specs.declared.event.EventKind.{EventKind}
-use Rattle.tase_map.specs.Inputs.{Item, piece, idle, ended}
-use Rattle.tase_map.specs.Asks.{asks_of}
-use Rattle.tase_conn.specs.declared.stage.ConnEnd.{ConnEnd}
-use Rattle.tase_conn.specs.declared.stage.ConnEnd.TheVariants as conn_ends
+use Rattle.conn_service.specs.TaseConn.Map.Inputs.{Item, piece, idle, ended}
+use Rattle.conn_service.specs.TaseConn.Map.Asks.{asks_of}
+use Rattle.conn_service.specs.TaseConn.declared.stage.ConnEnd.{ConnEnd}
+use Rattle.conn_service.specs.TaseConn.declared.stage.ConnEnd.TheVariants as conn_ends
 use Rattle.tase_views.specs.declared.event.Entry.{Entry}
 use Rattle.tase_replay.specs.declared.links.TheConstants.{LINE_OCTETS}
 use Rattle.tase_replay.specs.declared.links.LinkItem.{LinkItem}

@@ -23,15 +23,15 @@ use Rattle.tase_views.specs.Setup.{Setup}
 use Rattle.tase_views.specs.History.{Past, association_in}
 use Rattle.tase_views.specs.declared.event.EventKind.{EventKind}
 use Rattle.bilateral.specs.Rows.{CentreRows, device_of}
-use Rattle.tase_map.specs.Inputs.{Item}
-use Rattle.tase_conn.specs.declared.stage.ConnEnd.{ConnEnd}
-use Rattle.tase_conn.specs.declared.stage.ConnEnd.TheVariants as conn_ends
+use Rattle.conn_service.specs.TaseConn.Map.Inputs.{Item}
+use Rattle.conn_service.specs.TaseConn.declared.stage.ConnEnd.{ConnEnd}
+use Rattle.conn_service.specs.TaseConn.declared.stage.ConnEnd.TheVariants as conn_ends
 use Rattle.tase_views.specs.Outcomes.{refusal_of, answer_of}
-use Rattle.event_text.specs.ReplyTexts.{reply_text}
-use Rattle.report_text.specs.ReportTexts.{report_text}
+use Rattle.texts.specs.Events.ReplyTexts.{reply_text}
+use Rattle.texts.specs.Reports.ReportTexts.{report_text}
 use Rattle.tase_replay.specs.Lines.{entry_by}
-use Rattle.tase_map.specs.Linked.{link_octets}
-use Rattle.tase_conn.specs.PeerEnd.{peer_end}
+use Rattle.conn_service.specs.TaseConn.Map.Linked.{link_octets}
+use Rattle.conn_service.specs.TaseConn.PeerEnd.{peer_end}
 use Rattle.conn_service.specs.Served.{Served, served, with_closed}
 use Rattle.conn_service.specs.Sends.{close_of}
 use Rattle.tase_replay.specs.Links.{SeatItem, Asking, an_event, an_item, asking_in}

@@ -5,7 +5,7 @@ use Rattle.std.specs.Prelude.{Some, None, option_and_then, codes, decimal}
 use Rattle.std.specs.Result.{result_ok}
 use Rattle.std.specs.Str.Lines.{lines}
 use Rattle.hex.specs.Hex.{decode_of}
-use Rattle.tase_conn.specs.declared.stage.ConnEnd.{ConnEnd}
+use Rattle.conn_service.specs.TaseConn.declared.stage.ConnEnd.{ConnEnd}
 use Rattle.tase_replay.specs.Links.{end_text}
 use Rattle.tase_replay.specs.Play.{Step}
 

@@ -7,23 +7,23 @@ use Rattle.std.specs.HashMap.{get}
 use Rattle.outside.specs.Sink.{SinkTold}
 use Rattle.bilateral.specs.Rows.{CentreRows}
 use Rattle.tase_views.specs.declared.event.Entry.{Entry}
-use Rattle.tase_conn.specs.Talking.{Talking, pending_of, conn_end_in, IsResting}
-use Rattle.conn_laws.specs.Serving.{Serves}
+use Rattle.conn_service.specs.TaseConn.Talking.{Talking, pending_of, conn_end_in, IsResting}
+use Rattle.conn_service.specs.Courses.Serving.{Serves}
 use Rattle.tase_views.specs.History.{Past}
-use Rattle.tase_map.specs.Inputs.{Item, IsLinkInput}
-use Rattle.tase_conn.specs.Places.{ConnStandsAt}
-use Rattle.tase_conn.specs.declared.stage.PendingEvent.TheVariants as askeds
-use Rattle.tase_conn.specs.declared.stage.Progress.TheVariants as progresses
+use Rattle.conn_service.specs.TaseConn.Map.Inputs.{Item, IsLinkInput}
+use Rattle.conn_service.specs.TaseConn.Places.{ConnStandsAt}
+use Rattle.conn_service.specs.TaseConn.declared.stage.PendingEvent.TheVariants as askeds
+use Rattle.conn_service.specs.TaseConn.declared.stage.Progress.TheVariants as progresses
 use Rattle.tase_replay.specs.declared.links.Seats.{Seats}
 use Rattle.tase_replay.specs.declared.links.Use.{Use}
 use Rattle.tase_replay.specs.declared.links.Use.TheVariants as uses
-use Rattle.tase_map.specs.Linked.{link_octets}
+use Rattle.conn_service.specs.TaseConn.Map.Linked.{link_octets}
 use Rattle.tase_replay.specs.Links.{SeatItem, items_of}
 use Rattle.tase_replay.specs.Play.{Scene, is_linked, is_seated, conn_has_ended, is_unfit, Step}
 use Rattle.tase_replay.specs.Play.{behind_link, LineMeaning, gives, entries_in}
 use Rattle.tase_replay.specs.declared.playing.ReplayEnd.{ReplayEnd}
 use Rattle.tase_replay.specs.declared.playing.ReplayEnd.TheVariants.{Done}
-use Rattle.tase_conn.specs.declared.stage.ConnEnd.{ConnEnd}
+use Rattle.conn_service.specs.TaseConn.declared.stage.ConnEnd.{ConnEnd}
 use Rattle.tase_views.specs.Setup.{Setup}
 use Rattle.tase_replay.specs.PrintedLines.{ShownToPeer, sent_octet, end_words, all_shown, shown_by}
 use Rattle.conn_service.specs.Sends.{Sends}

@@ -3,16 +3,16 @@ ghost use Rattle.plain_text.specs.Words.{words};
 ghost use Rattle.std.specs.Prelude.{IfSome};
 ghost use Rattle.tase_replay.specs.Links.{an_item, an_event, asking_in, asking_seen, given_seen};
 ghost use Rattle.tase_replay.specs.Links.{IsFit, IsFitting};
-ghost use Rattle.tase_map.specs.Asked.{is_odd};
+ghost use Rattle.conn_service.specs.TaseConn.Map.Asked.{is_odd};
 ghost use Rattle.tase_replay.specs.CallIn.{call_of_words};
 ghost use Rattle.tase_replay.specs.Lines.{seat_in, entry_by, open_in, say_in, seated_in, entry_in};
 
 use crate::links::{LineItem, is_link_word, read_given};
 use bilateral::Centre;
-use event_text::{read_call_words, read_centre_line};
 use plain_text::{is_spaced, next_word, read_number};
 use std::alloc::{AllocError, Global};
 use tase_views::{Call, CallKind, Entry, Event, EventKind};
+use texts::events::{read_call_words, read_centre_line};
 
 /// What a line asks for.
 #[derive(Drop)]

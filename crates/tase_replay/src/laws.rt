@@ -2,8 +2,8 @@
 ghost use Rattle.std.specs.Prelude.{◌≡◌, ◌↔◌, ℕ, false, List, ◌++◌, map, Some};
 ghost use Rattle.tase_views.specs.declared.call.CallKind.{CallKind as AnyCall};
 ghost use Rattle.tase_views.specs.Setup.{Setup};
-ghost use Rattle.event_text.specs.CallWords.{SpellsCall};
-ghost use Rattle.tase_map.specs.Asked.{is_odd};
+ghost use Rattle.texts.specs.Events.CallWords.{SpellsCall};
+ghost use Rattle.conn_service.specs.TaseConn.Map.Asked.{is_odd};
 ghost use Rattle.tase_replay.specs.CallIn.{call_of_words};
 ghost use Rattle.tase_replay.specs.Play.{Played, done, played_of};
 

@@ -8,17 +8,17 @@ ghost use Rattle.tase_replay.specs.Players.{StandsIn, HasNoted, HasFound, IsSame
 ghost use Rattle.tase_replay.specs.Players.{play_of, Plays, PlaysLine};
 ghost use Rattle.tase_replay.specs.Ends.{IsPlayed, IsShown, end_of_refusal};
 ghost use Rattle.tase_replay.specs.Ends as spec;
-ghost use Rattle.tase_conn.specs.Talking.{conn_end_in};
+ghost use Rattle.conn_service.specs.TaseConn.Talking.{conn_end_in};
 
 use crate::entries::{LineRequest, read_asked};
 use crate::links::{LineItem, Seats, receive};
 use crate::printing::{print_orders, print_reply, print_reports, print_sent};
 use bilateral::Centre;
-use node_core::Node;
+use conn_service::connection::{Conn, ConnEnd};
+use conn_service::node::Node;
 use outside::Sink;
 use plain_text::{is_skipped, next_line};
 use std::alloc::Global;
-use tase_conn::{Conn, ConnEnd};
 use tase_views::{Answer, Entry, StepFault};
 
 /// How the play of a scenario ended.

@@ -1,9 +1,9 @@
 ghost use Rattle.std.specs.Prelude.{◌≡◌, [], ◌∷◌, ◌++◌, length, drop, OnOk, Some, codes};
 ghost use Rattle.std.specs.Prelude.{decimal, flat_map};
 ghost use Rattle.plain_text.specs.Octets.{hex_text};
-ghost use Rattle.tase_conn.specs.Talking.{pending_of, next_pending, conn_end_in};
-ghost use Rattle.tase_conn.specs.Places.{KeepsPlace};
-ghost use Rattle.tase_conn.specs.Taken.{SendsSome};
+ghost use Rattle.conn_service.specs.TaseConn.Talking.{pending_of, next_pending, conn_end_in};
+ghost use Rattle.conn_service.specs.TaseConn.Places.{KeepsPlace};
+ghost use Rattle.conn_service.specs.TaseConn.Taken.{SendsSome};
 ghost use Rattle.tase_replay.specs.declared.playing.ReplayEnd.TheVariants.{Done};
 ghost use Rattle.tase_replay.specs.Links.{line_of_out, line_of_end, end_text, fault_text};
 ghost use Rattle.bilateral.specs.Rows.{device_of};
@@ -12,16 +12,16 @@ ghost use Rattle.tase_replay.specs.Ends.{IsShown, end_of_write};
 
 use crate::playing::ReplayEnd;
 use bilateral::Centre;
-use event_text::spell_reply;
+use conn_service::connection::{Conn, ConnEnd};
 use outside::{Sink, SinkFailed, write_all};
 use plain_text::{push_decimal, push_escaped, push_hex, push_signed_decimal};
-use report_text::spell_report;
 use sbo_device::Order;
-use stack_messages::StackFault;
+use stack_assoc::listing::{layer_name, why_name};
+use stack_assoc::messages::StackFault;
 use std::alloc::AllocError;
-use stream_listing::{layer_name, why_name};
-use tase_conn::{Conn, ConnEnd};
 use tase_views::{Reply, Report};
+use texts::events::spell_reply;
+use texts::reports::spell_report;
 
 /// Prints a reply to a seat as a line. `text` is where the line is put together; what it held is
 /// gone.

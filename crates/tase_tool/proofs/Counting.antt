@@ -2,12 +2,12 @@
 use Rattle.std.proofs.Common.{◌≡◌, ℕ, List, [], true, Some, sym, ap, ◌∙◌, subst}
 use Rattle.std.specs.Prelude.{length, unwrap_or}
 use Rattle.outside.specs.Sink.{SinkTold}
-use Rattle.outside_names.specs.Outside.{OutsideTold}
-use Rattle.command_io.specs.declared.status.Status.{Status}
-use Rattle.command_io.specs.declared.status.Status.TheVariants.{Done}
-use Rattle.command_io.specs.Saying.{prints, duty_to_say}
-use Rattle.command_io.specs.Runs.{IsRun}
-use Rattle.load_run.specs.Summaries.{summary_text}
+use Rattle.outside.specs.Names.Outside.{OutsideTold}
+use Rattle.commands.specs.declared.io.status.Status.{Status}
+use Rattle.commands.specs.declared.io.status.Status.TheVariants.{Done}
+use Rattle.commands.specs.Io.Saying.{prints, duty_to_say}
+use Rattle.commands.specs.Io.Runs.{IsRun}
+use Rattle.commands.specs.Load.Summaries.{summary_text}
 use Rattle.tase_views.specs.declared.event.Entry.{Entry}
 use Rattle.tase_replay.specs.declared.playing.ReplayEnd.TheVariants as plays
 use Rattle.tase_replay.specs.Play.{Played, shown_of}

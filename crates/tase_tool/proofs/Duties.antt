@@ -5,24 +5,24 @@ use Rattle.std.specs.Prelude.{Result, Ok, Err, IfOk, Vec, codes}
 use Rattle.std.specs.declared.alloc.Global.{Global}
 use Rattle.std.proofs.lemmas.List.{append-nil}
 use Rattle.outside.specs.Sink.{SinkTold}
-use Rattle.outside_names.specs.Outside.{NameEntry, OutsideTold}
-use Rattle.command_io.specs.declared.status.Status.{Status}
-use Rattle.command_io.specs.declared.input.InputEnd.{InputEnd}
-use Rattle.command_io.specs.declared.input.InputEnd.TheVariants.{Refused, Outside, Memory}
-use Rattle.command_io.specs.declared.input.TheConstants.{TEXT_LIMIT}
-use Rattle.command_io.specs.Statuses.{is_whole}
-use Rattle.command_io.specs.Saying.{Text, untold, missing, told, texts_of, names_in}
-use Rattle.command_io.specs.Inputs.{value_as, ReadsInput}
-use Rattle.command_io.specs.Runs.{Took}
-use Rattle.command_io.specs.Plans.{Plan, says, whole_text, octets_of, texts_behind, EndsPlan}
-use Rattle.command_io.specs.Plans.{ReadsValue, OnValue}
-use Rattle.command_io.proofs.Plans.{IsFront, Fits, OnEnd, OnValue-read, ReadsValue-text}
-use Rattle.command_io.proofs.Plans.{texts_valued, plan_command}
+use Rattle.outside.specs.Names.Outside.{NameEntry, OutsideTold}
+use Rattle.commands.specs.declared.io.status.Status.{Status}
+use Rattle.commands.specs.declared.io.input.InputEnd.{InputEnd}
+use Rattle.commands.specs.declared.io.input.InputEnd.TheVariants.{Refused, Outside, Memory}
+use Rattle.commands.specs.declared.io.input.TheConstants.{TEXT_LIMIT}
+use Rattle.commands.specs.Io.Statuses.{is_whole}
+use Rattle.commands.specs.Io.Saying.{Text, untold, missing, told, texts_of, names_in}
+use Rattle.commands.specs.Io.Inputs.{value_as, ReadsInput}
+use Rattle.commands.specs.Io.Runs.{Took}
+use Rattle.commands.specs.Io.Plans.{Plan, says, whole_text, octets_of, texts_behind, EndsPlan}
+use Rattle.commands.specs.Io.Plans.{ReadsValue, OnValue}
+use Rattle.commands.proofs.OfIo.Plans.{IsFront, Fits, OnEnd, OnValue-read, ReadsValue-text}
+use Rattle.commands.proofs.OfIo.Plans.{texts_valued, plan_command}
 use Rattle.bilateral.specs.Rows.{CentreRows}
 use Rattle.tase_replay.specs.Play.{Played, shown_of, scenario_of}
 use Rattle.node_core.specs.NodeState.{NodeState}
-use Rattle.command_words.specs.Words.{ReplayOptions, Task, limit_of, replays}
-use Rattle.node_files.specs.Tables.{tables_in}
+use Rattle.commands.specs.Words.Words.{ReplayOptions, Task, limit_of, replays}
+use Rattle.commands.specs.Files.Tables.{tables_in}
 use Rattle.tase_tool.specs.Saying.{kept_said, journal_names, setup_of, scenario_said, scenario_plan}
 use Rattle.tase_tool.specs.Saying.{duty_of, plan_of}
 use Rattle.tase_tool.specs.Sent.{node_of, SendsSoFar, SendsOn, SendsOver, SendsBy}

@@ -4,16 +4,16 @@ use Rattle.std.proofs.Common.{refl, sym, ap, ◌∙◌, subst, inl}
 use Rattle.std.specs.Prelude.{bytes_eq}
 use Rattle.std.proofs.lemmas.Slice.Eq.{bytes_eq-Decides}
 use Rattle.outside.specs.Sink.{SinkTold}
-use Rattle.outside_names.specs.Outside.{OutsideTold}
-use Rattle.command_io.specs.declared.status.Status.{Status}
-use Rattle.command_io.specs.declared.status.Status.TheVariants.{Done, Usage, Input, Outside, Full}
-use Rattle.command_io.specs.declared.status.Status.TheVariants.{Differs, Memory, Peer}
-use Rattle.command_io.specs.Statuses.{is_whole, OnWhole}
-use Rattle.command_io.specs.OutsideUse.{is_among}
-use Rattle.command_io.specs.Saying.{Said, with_file, duty_to_say}
-use Rattle.command_io.specs.Runs.{IsRun, Took, WritesFile, status_behind, output_name}
-use Rattle.command_io.proofs.Running.{OnWhole-all}
-use Rattle.command_io.proofs.Filing.{IsRun-filed, IsRun-unfiled}
+use Rattle.outside.specs.Names.Outside.{OutsideTold}
+use Rattle.commands.specs.declared.io.status.Status.{Status}
+use Rattle.commands.specs.declared.io.status.Status.TheVariants.{Done, Usage, Input, Outside, Full}
+use Rattle.commands.specs.declared.io.status.Status.TheVariants.{Differs, Memory, Peer}
+use Rattle.commands.specs.Io.Statuses.{is_whole, OnWhole}
+use Rattle.commands.specs.Io.OutsideUse.{is_among}
+use Rattle.commands.specs.Io.Saying.{Said, with_file, duty_to_say}
+use Rattle.commands.specs.Io.Runs.{IsRun, Took, WritesFile, status_behind, output_name}
+use Rattle.commands.proofs.OfIo.Running.{OnWhole-all}
+use Rattle.commands.proofs.OfIo.Filing.{IsRun-filed, IsRun-unfiled}
 use Rattle.tase_views.specs.declared.event.Entry.{Entry}
 use Rattle.node_core.specs.NodeState.{NodeState}
 use Rattle.tase_replay.specs.declared.playing.ReplayEnd.{ReplayEnd}
@@ -21,7 +21,7 @@ use Rattle.tase_replay.specs.declared.playing.ReplayEnd.TheVariants as plays
 use Rattle.tase_replay.specs.Ends.{IsPlayed}
 use Rattle.tase_tool.specs.Playing.{EndsPlay}
 use Rattle.tase_tool.specs.Sent.{played_on, SendsSoFar}
-use Rattle.node_files.specs.Kept.{KeepsJournal}
+use Rattle.commands.specs.Files.Kept.{KeepsJournal}
 use Rattle.tase_tool.specs.Kept.{HasPlayed}
 use Rattle.tase_tool.proofs.Sending.{output_of}
 

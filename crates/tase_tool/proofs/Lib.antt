@@ -7,3 +7,5 @@ mod Keeping
 mod Verified
 mod Counting
 mod Tasks
+pub mod OfClient
+pub mod OfServer

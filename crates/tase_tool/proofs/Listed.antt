@@ -4,12 +4,12 @@ use Rattle.std.proofs.Common.{Ok, Err, refl, sym, ap, subst, ◌∙◌, ◌≢�
 use Rattle.std.specs.Prelude.{Result}
 use Rattle.outside.specs.Sink.{SinkTold, AppendsAll, AppendsPart}
 use Rattle.outside.proofs.Writing.{Appends-append, AppendsPart-append, AppendsPart-front}
-use Rattle.command_io.specs.declared.status.Status.{Status}
-use Rattle.command_io.specs.declared.status.Status.TheVariants.{Done, Usage, Input, Outside, Full}
-use Rattle.command_io.specs.declared.status.Status.TheVariants.{Differs, Memory, Peer}
-use Rattle.command_io.specs.Runs.{TellsSaid}
-use Rattle.stream_listing.specs.Listings.{Listing, State, listing_of, yet_listed, with_text, ListsPiece}
-use Rattle.stream_listing.proofs.Listing.{with_text-twice}
+use Rattle.commands.specs.declared.io.status.Status.{Status}
+use Rattle.commands.specs.declared.io.status.Status.TheVariants.{Done, Usage, Input, Outside, Full}
+use Rattle.commands.specs.declared.io.status.Status.TheVariants.{Differs, Memory, Peer}
+use Rattle.commands.specs.Io.Runs.{TellsSaid}
+use Rattle.stack_assoc.specs.Listing.Listings.{Listing, State, listing_of, yet_listed, with_text, ListsPiece}
+use Rattle.stack_assoc.proofs.OfListing.Listing.{with_text-twice}
 use Rattle.tase_tool.specs.Listing.{status_of, listing_said, stream_said, ListsOn}
 
 -- a listing is no answer to words that are no command

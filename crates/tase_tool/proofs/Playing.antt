@@ -5,12 +5,12 @@ use Rattle.std.specs.Prelude.{codes}
 use Rattle.outside.specs.Sink.{SinkTold, AppendsAll, AppendsPart}
 use Rattle.outside.proofs.Writing.{Appends-append, AppendsPart-append}
 use Rattle.outside.proofs.Writing.{AppendsPart-front}
-use Rattle.command_io.specs.declared.status.Status.{Status}
-use Rattle.command_io.specs.declared.status.Status.TheVariants.{Done, Usage, Input, Outside, Full}
-use Rattle.command_io.specs.declared.status.Status.TheVariants.{Differs, Memory, Peer}
-use Rattle.command_io.specs.declared.input.Refusal.TheVariants.{BadLine}
-use Rattle.command_io.specs.Saying.{prints, refusal_text, full_text}
-use Rattle.command_io.specs.Runs.{TellsSaid}
+use Rattle.commands.specs.declared.io.status.Status.{Status}
+use Rattle.commands.specs.declared.io.status.Status.TheVariants.{Done, Usage, Input, Outside, Full}
+use Rattle.commands.specs.declared.io.status.Status.TheVariants.{Differs, Memory, Peer}
+use Rattle.commands.specs.declared.io.input.Refusal.TheVariants.{BadLine}
+use Rattle.commands.specs.Io.Saying.{prints, refusal_text, full_text}
+use Rattle.commands.specs.Io.Runs.{TellsSaid}
 use Rattle.tase_replay.specs.Play.{Played, PlayEnd, done, bad_line, history_full, printed_in}
 use Rattle.tase_replay.specs.Play.{shown_of, steps_of}
 use Rattle.tase_replay.specs.Ends.{IsPlayed}

@@ -2,14 +2,14 @@
 use Rattle.std.proofs.Common.{◌≡◌, ◌⊎◌, ℕ, Bool, true, false, List, [], Option, refl, sym, ap, ◌∙◌}
 use Rattle.std.proofs.Common.{subst, inl, inr}
 use Rattle.outside.specs.Sink.{SinkTold, AppendsPart}
-use Rattle.outside_names.specs.Outside.{NameEntry, OutsideTold}
+use Rattle.outside.specs.Names.Outside.{NameEntry, OutsideTold}
 use Rattle.outside.proofs.Writing.{Adds-none}
-use Rattle.command_io.specs.declared.status.Status.{Status}
-use Rattle.command_io.specs.declared.status.Status.TheVariants.{Done, Usage, Input, Outside, Full}
-use Rattle.command_io.specs.declared.status.Status.TheVariants.{Differs, Memory, Peer}
-use Rattle.command_io.specs.Saying.{prints}
-use Rattle.command_io.specs.Runs.{TellsSaid, Took, taken_of, output_name}
-use Rattle.command_io.specs.Statuses.{is_whole}
+use Rattle.commands.specs.declared.io.status.Status.{Status}
+use Rattle.commands.specs.declared.io.status.Status.TheVariants.{Done, Usage, Input, Outside, Full}
+use Rattle.commands.specs.declared.io.status.Status.TheVariants.{Differs, Memory, Peer}
+use Rattle.commands.specs.Io.Saying.{prints}
+use Rattle.commands.specs.Io.Runs.{TellsSaid, Took, taken_of, output_name}
+use Rattle.commands.specs.Io.Statuses.{is_whole}
 use Rattle.tase_views.specs.declared.event.Entry.{Entry}
 use Rattle.node_core.specs.NodeState.{NodeState}
 use Rattle.tase_replay.specs.declared.playing.ReplayEnd.{ReplayEnd}

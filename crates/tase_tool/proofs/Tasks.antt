@@ -1,10 +1,10 @@
 -- That a run for whose words memory is wanting does nothing, whatever they ask for.
 use Rattle.std.proofs.Common.{ℕ, true, Option, Some, None, is_some, ◌≡◌, refl, sym, inr, true≢false}
-use Rattle.outside_names.specs.Outside.{OutsideTold}
-use Rattle.command_io.specs.declared.status.Status.TheVariants.{Memory}
-use Rattle.command_io.specs.Saying.{texts_of}
-use Rattle.command_io.proofs.Running.{IsRun-idle}
-use Rattle.command_words.specs.Words.{Task, serves, plays_client}
+use Rattle.outside.specs.Names.Outside.{OutsideTold}
+use Rattle.commands.specs.declared.io.status.Status.TheVariants.{Memory}
+use Rattle.commands.specs.Io.Saying.{texts_of}
+use Rattle.commands.proofs.OfIo.Running.{IsRun-idle}
+use Rattle.commands.specs.Words.Words.{Task, serves, plays_client}
 use Rattle.tase_tool.specs.Saying.{duty_of}
 use Rattle.tase_tool.specs.Running.{RunsTask}
 use Rattle.tase_tool.proofs.Duties.{task_command}

@@ -1,8 +1,8 @@
 -- What is said of a PDU that was read, and of the first rule that octets break.
 use Rattle.std.proofs.Common.{◌≡◌, ℕ, List, [], Ok, Err, ap, refl}
 use Rattle.std.specs.Prelude.{length, Result}
-use Rattle.command_io.specs.declared.status.Status.TheVariants.{Done, Input}
-use Rattle.command_io.specs.Saying.{prints}
+use Rattle.commands.specs.declared.io.status.Status.TheVariants.{Done, Input}
+use Rattle.commands.specs.Io.Saying.{prints}
 use Rattle.ber_values.specs.declared.fault.BerFault.{BerFault}
 use Rattle.ber_values.specs.Reading.{Taken}
 use Rattle.ber_values.specs.Readers.{IsReadBy, taken_whole}
@@ -10,7 +10,7 @@ use Rattle.mms_services.specs.declared.fault.MmsFault.{MmsFault}
 use Rattle.mms_services.specs.declared.pdu.MmsPdu.{MmsPdu}
 use Rattle.mms_services.specs.Pdus.{pdu, without_invoke}
 use Rattle.mms_services.proofs.PdusRead.{pdu_reads}
-use Rattle.stream_listing.specs.Names.{message_name_text, pdu_name, why_name}
+use Rattle.stack_assoc.specs.Listing.Names.{message_name_text, pdu_name, why_name}
 use Rattle.tase_tool.specs.Decoding.{pdu_line, pdu_fault_line, read_said, pdu_said}
 
 module _ (octets : List ℕ) where

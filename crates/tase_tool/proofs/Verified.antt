@@ -3,28 +3,28 @@ use Rattle.std.proofs.Common.{◌≡◌, ℕ, Bool, List, [], ◌∷◌, Option,
 use Rattle.std.specs.Prelude.{Result, Ok, Err, IfOk, MatchResult, Vec, codes}
 use Rattle.std.specs.declared.alloc.AllocError.{AllocError}
 use Rattle.std.specs.declared.alloc.Global.{Global}
-use Rattle.outside_names.specs.Outside.{OutsideTold}
-use Rattle.command_io.specs.declared.status.Status.{Status}
-use Rattle.command_io.specs.declared.input.InputEnd.{InputEnd}
-use Rattle.command_io.specs.declared.input.InputEnd.TheVariants.{Refused, Memory}
-use Rattle.command_io.specs.declared.input.Refusal.TheVariants.{BadLine}
-use Rattle.command_io.specs.declared.input.TheConstants.{JOURNAL_LIMIT}
-use Rattle.command_io.specs.Inputs.{value_or_end, ReadsInput}
-use Rattle.command_io.specs.Saying.{texts_of}
-use Rattle.command_io.specs.Runs.{IsRun, EndsUnread}
-use Rattle.command_io.specs.Plans.{Plan, says, duty_by, IsSpelled, ReadsValue, EndsPlan}
-use Rattle.command_io.proofs.Plans.{Fits, Fits-alone, Fits-value, IsRun-value}
+use Rattle.outside.specs.Names.Outside.{OutsideTold}
+use Rattle.commands.specs.declared.io.status.Status.{Status}
+use Rattle.commands.specs.declared.io.input.InputEnd.{InputEnd}
+use Rattle.commands.specs.declared.io.input.InputEnd.TheVariants.{Refused, Memory}
+use Rattle.commands.specs.declared.io.input.Refusal.TheVariants.{BadLine}
+use Rattle.commands.specs.declared.io.input.TheConstants.{JOURNAL_LIMIT}
+use Rattle.commands.specs.Io.Inputs.{value_or_end, ReadsInput}
+use Rattle.commands.specs.Io.Saying.{texts_of}
+use Rattle.commands.specs.Io.Runs.{IsRun, EndsUnread}
+use Rattle.commands.specs.Io.Plans.{Plan, says, duty_by, IsSpelled, ReadsValue, EndsPlan}
+use Rattle.commands.proofs.OfIo.Plans.{Fits, Fits-alone, Fits-value, IsRun-value}
 use Rattle.capture_text.specs.Captures.{capture_in}
 use Rattle.bilateral.specs.Rows.{CentreRows}
 use Rattle.sbo_device.specs.declared.key.Key.{Key}
 use Rattle.tase_views.specs.History.{Past}
-use Rattle.association_check.specs.declared.answered.AnsweredEvent.{AnsweredEvent}
-use Rattle.association_check.specs.declared.verdict.Verdict.{Verdict}
-use Rattle.association_check.specs.declared.verdict.Verdict.TheVariants as verdicts
+use Rattle.tase_verify.specs.declared.association.answered.AnsweredEvent.{AnsweredEvent}
+use Rattle.tase_verify.specs.declared.association.verdict.Verdict.{Verdict}
+use Rattle.tase_verify.specs.declared.association.verdict.Verdict.TheVariants as verdicts
 use Rattle.tase_verify.specs.JournalIn.{journal_in}
 use Rattle.tase_verify.specs.LinkText.{given_in}
 use Rattle.tase_verify.specs.Verifying.{journal_setup, answered_for, verdict_for, IsJournal}
-use Rattle.command_words.specs.Words.{Question}
+use Rattle.commands.specs.Words.Words.{Question}
 use Rattle.tase_tool.specs.Verifying.{verdict_said, key_meant, input_asked, sent_plan}
 use Rattle.tase_tool.specs.Verifying.{given_plan, journal_plan, AreAnswers}
 

@@ -1,12 +1,12 @@
 -- What is said of the octets of a capture, which are one PDU.
 use Rattle.std.specs.Prelude.{ℕ, List, [], ◌∷◌, ◌++◌, length, Result, Ok, Err, codes, decimal}
-use Rattle.command_io.specs.declared.status.Status.TheVariants.{Done, Input}
-use Rattle.command_io.specs.Saying.{Said, prints}
+use Rattle.commands.specs.declared.io.status.Status.TheVariants.{Done, Input}
+use Rattle.commands.specs.Io.Saying.{Said, prints}
 use Rattle.ber_values.specs.declared.fault.BerFault.{BerFault}
 use Rattle.ber_values.specs.Reading.{Taken}
 use Rattle.mms_services.specs.declared.pdu.MmsPdu.{MmsPdu}
 use Rattle.mms_services.specs.Pdus.{pdu}
-use Rattle.stream_listing.specs.Names.{message_name_text, pdu_name, why_name}
+use Rattle.stack_assoc.specs.Listing.Names.{message_name_text, pdu_name, why_name}
 
 -- `pdu NAME LENGTH`
 abbrev pub pdu_line : List ℕ → ℕ → List ℕ

@@ -7,3 +7,5 @@ pub mod Kept
 pub mod Verifying
 pub mod Loading
 pub mod Running
+pub mod Client
+pub mod Server

@@ -1,12 +1,12 @@
 -- What is said of a capture that holds a stream.
 use Rattle.std.specs.Prelude.{◌≡◌, ◌++◌, ℕ, Bool, true, false, List, Result, Ok, Err, codes}
 use Rattle.outside.specs.Sink.{SinkTold, AppendsAll}
-use Rattle.command_io.specs.declared.status.Status.{Status}
-use Rattle.command_io.specs.declared.status.Status.TheVariants.{Done, Input}
-use Rattle.command_io.specs.declared.input.Refusal.TheVariants.{BadLine}
-use Rattle.command_io.specs.Saying.{Said, prints, refusal_text}
-use Rattle.command_io.specs.Runs.{TellsSaid}
-use Rattle.stream_listing.specs.Listings.{Listing, listing_of, State, yet_listed, with_text}
+use Rattle.commands.specs.declared.io.status.Status.{Status}
+use Rattle.commands.specs.declared.io.status.Status.TheVariants.{Done, Input}
+use Rattle.commands.specs.declared.io.input.Refusal.TheVariants.{BadLine}
+use Rattle.commands.specs.Io.Saying.{Said, prints, refusal_text}
+use Rattle.commands.specs.Io.Runs.{TellsSaid}
+use Rattle.stack_assoc.specs.Listing.Listings.{Listing, listing_of, State, yet_listed, with_text}
 
 -- a fault refuses the input
 abbrev pub status_of : Bool → Status

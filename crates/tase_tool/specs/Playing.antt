@@ -1,11 +1,11 @@
 -- How a command tells the end of a play.
 use Rattle.std.specs.Prelude.{◌≡◌, ◌⊎◌, codes}
 use Rattle.outside.specs.Sink.{SinkTold}
-use Rattle.command_io.specs.declared.status.Status.{Status}
-use Rattle.command_io.specs.declared.status.Status.TheVariants as statuses
-use Rattle.command_io.specs.declared.input.Refusal.TheVariants as refusals
-use Rattle.command_io.specs.Saying.{prints, refusal_text, full_text}
-use Rattle.command_io.specs.Runs.{TellsSaid}
+use Rattle.commands.specs.declared.io.status.Status.{Status}
+use Rattle.commands.specs.declared.io.status.Status.TheVariants as statuses
+use Rattle.commands.specs.declared.io.input.Refusal.TheVariants as refusals
+use Rattle.commands.specs.Io.Saying.{prints, refusal_text, full_text}
+use Rattle.commands.specs.Io.Runs.{TellsSaid}
 use Rattle.tase_replay.specs.declared.playing.ReplayEnd.{ReplayEnd}
 use Rattle.tase_replay.specs.declared.playing.ReplayEnd.TheVariants.{Done, BadLine, Full, SinkFault}
 use Rattle.tase_replay.specs.declared.playing.ReplayEnd.TheVariants.{Memory}

@@ -1,13 +1,13 @@
 -- What a run of the program's words leaves outside, by the command that they ask for.
 use Rattle.std.specs.Prelude.{◌≡◌, ◌⊎◌, ℕ, Option, Some}
-use Rattle.outside_names.specs.Outside.{OutsideTold}
-use Rattle.command_io.specs.declared.status.Status.{Status}
-use Rattle.command_io.specs.declared.status.Status.TheVariants.{Memory}
-use Rattle.command_io.specs.Saying.{texts_of}
-use Rattle.command_io.specs.Runs.{IsRun}
-use Rattle.command_words.specs.Words.{ServeTask, ClientTask, Task, serves, plays_client}
-use Rattle.client_command.specs.Playing.{ClientCommand}
-use Rattle.serve_command.specs.Serving.{ServesCommand}
+use Rattle.outside.specs.Names.Outside.{OutsideTold}
+use Rattle.commands.specs.declared.io.status.Status.{Status}
+use Rattle.commands.specs.declared.io.status.Status.TheVariants.{Memory}
+use Rattle.commands.specs.Io.Saying.{texts_of}
+use Rattle.commands.specs.Io.Runs.{IsRun}
+use Rattle.commands.specs.Words.Words.{ServeTask, ClientTask, Task, serves, plays_client}
+use Rattle.tase_tool.specs.Client.Playing.{ClientCommand}
+use Rattle.tase_tool.specs.Server.Serving.{ServesCommand}
 use Rattle.tase_tool.specs.Saying.{duty_of}
 
 -- memory ran out before anything was done

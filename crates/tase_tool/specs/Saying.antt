@@ -1,26 +1,26 @@
 -- What each command says, and which inputs it opens, from the octets of its inputs.
 use Rattle.std.specs.Prelude.{ℕ, false, List, [], ◌∷◌, ◌++◌, length}
 use Rattle.std.specs.Prelude.{Option, Some, None, Result, Ok, Err, codes}
-use Rattle.command_io.specs.declared.status.Status.TheVariants.{Done, Usage, Input, Full}
-use Rattle.command_io.specs.declared.input.Refusal.TheVariants.{BadLine}
-use Rattle.command_io.specs.declared.input.TheConstants.{TEXT_LIMIT}
-use Rattle.command_io.specs.Saying.{Said, prints, refusal_text, full_text, Text, with_file}
-use Rattle.command_io.specs.Saying.{Duty, duty_to_say}
-use Rattle.command_io.specs.Plans.{Asked, Plan, says, reads, reads_value, duty_by, refused_said}
+use Rattle.commands.specs.declared.io.status.Status.TheVariants.{Done, Usage, Input, Full}
+use Rattle.commands.specs.declared.io.input.Refusal.TheVariants.{BadLine}
+use Rattle.commands.specs.declared.io.input.TheConstants.{TEXT_LIMIT}
+use Rattle.commands.specs.Io.Saying.{Said, prints, refusal_text, full_text, Text, with_file}
+use Rattle.commands.specs.Io.Saying.{Duty, duty_to_say}
+use Rattle.commands.specs.Io.Plans.{Asked, Plan, says, reads, reads_value, duty_by, refused_said}
 use Rattle.capture_text.specs.Captures.{capture_in}
 use Rattle.bilateral.specs.Rows.{CentreRows}
 use Rattle.tase_views.specs.Setup.{Setup}
 use Rattle.tase_replay.specs.Play.{Played, PlayEnd, done, bad_line, history_full, shown_of}
 use Rattle.tase_replay.specs.Play.{steps_of, entries_in, scenario_of}
-use Rattle.journal_text.specs.Journals.{journal_text}
-use Rattle.load_run.specs.Generated.{load_tables, load_scenario}
-use Rattle.load_run.specs.Summaries.{summary_text}
-use Rattle.command_words.specs.Words.{ReplayOptions, limit_of, Task, replays, lists_stream}
-use Rattle.command_words.specs.Words.{no_options, decodes_pdu, verifies, loads}
-use Rattle.command_words.specs.Words.{serves, plays_client}
+use Rattle.texts.specs.Journal.Journals.{journal_text}
+use Rattle.commands.specs.Load.Generated.{load_tables, load_scenario}
+use Rattle.commands.specs.Load.Summaries.{summary_text}
+use Rattle.commands.specs.Words.Words.{ReplayOptions, limit_of, Task, replays, lists_stream}
+use Rattle.commands.specs.Words.Words.{no_options, decodes_pdu, verifies, loads}
+use Rattle.commands.specs.Words.Words.{serves, plays_client}
 use Rattle.tase_tool.specs.Decoding.{pdu_said}
 use Rattle.tase_tool.specs.Listing.{stream_said}
-use Rattle.node_files.specs.Tables.{tables_in}
+use Rattle.commands.specs.Files.Tables.{tables_in}
 use Rattle.tase_tool.specs.Verifying.{verify_plan}
 
 abbrev pub usage : Said

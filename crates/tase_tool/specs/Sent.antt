@@ -2,19 +2,19 @@
 -- prints of orders all that the plant has taken.
 use Rattle.std.specs.Prelude.{◌≡◌, ◌⊎◌, ℕ, true, List, [], ◌++◌, reverse, Option, Some}
 use Rattle.std.specs.Str.Lines.{lines}
-use Rattle.command_io.specs.declared.input.TheConstants.{TEXT_LIMIT}
-use Rattle.command_io.specs.declared.status.Status.{Status}
-use Rattle.command_io.specs.Statuses.{is_whole}
-use Rattle.command_io.specs.Saying.{Text}
-use Rattle.command_io.specs.Runs.{Took}
-use Rattle.command_io.specs.Plans.{whole_text, texts_behind, OnValue}
+use Rattle.commands.specs.declared.io.input.TheConstants.{TEXT_LIMIT}
+use Rattle.commands.specs.declared.io.status.Status.{Status}
+use Rattle.commands.specs.Io.Statuses.{is_whole}
+use Rattle.commands.specs.Io.Saying.{Text}
+use Rattle.commands.specs.Io.Runs.{Took}
+use Rattle.commands.specs.Io.Plans.{whole_text, texts_behind, OnValue}
 use Rattle.bilateral.specs.Rows.{CentreRows}
 use Rattle.node_core.specs.NodeState.{NodeState}
 use Rattle.tase_replay.specs.Play.{TakenLine, Played, play, first_scene, steps_in, printed_in}
 use Rattle.tase_replay.specs.AllSent.{AreSentOver}
 use Rattle.tase_replay.specs.OrdersPrinted.{AreOrdersPrinted}
-use Rattle.command_words.specs.Words.{ReplayOptions, limit_of, Task, replays}
-use Rattle.node_files.specs.Tables.{tables_in}
+use Rattle.commands.specs.Words.Words.{ReplayOptions, limit_of, Task, replays}
+use Rattle.commands.specs.Files.Tables.{tables_in}
 use Rattle.tase_tool.specs.Saying.{setup_of}
 
 -- a new node of a centre

@@ -3,26 +3,26 @@
 use Rattle.std.specs.Prelude.{◌≡◌, ℕ, Bool, List, [], ◌∷◌, ◌++◌, Option, Some, None, option_map}
 use Rattle.std.specs.Prelude.{Result, Ok, Err, Vec, codes, decimal}
 use Rattle.std.specs.declared.alloc.Global.{Global}
-use Rattle.command_io.specs.declared.status.Status.TheVariants.{Done, Differs}
-use Rattle.command_io.specs.declared.input.InputEnd.{InputEnd}
-use Rattle.command_io.specs.declared.input.TheConstants.{TEXT_LIMIT, JOURNAL_LIMIT}
-use Rattle.command_io.specs.Saying.{Said, prints}
-use Rattle.command_io.specs.Plans.{Asked, Plan, says, reads_value}
+use Rattle.commands.specs.declared.io.status.Status.TheVariants.{Done, Differs}
+use Rattle.commands.specs.declared.io.input.InputEnd.{InputEnd}
+use Rattle.commands.specs.declared.io.input.TheConstants.{TEXT_LIMIT, JOURNAL_LIMIT}
+use Rattle.commands.specs.Io.Saying.{Said, prints}
+use Rattle.commands.specs.Io.Plans.{Asked, Plan, says, reads_value}
 use Rattle.plain_text.specs.Octets.{hex_text}
 use Rattle.capture_text.specs.Captures.{capture_in}
 use Rattle.bilateral.specs.Rows.{CentreRows, place_of_peer}
 use Rattle.sbo_device.specs.declared.key.Key.{Key}
 use Rattle.tase_views.specs.History.{Past}
-use Rattle.association_check.specs.declared.answered.AnsweredEvent.{AnsweredEvent}
-use Rattle.association_check.specs.declared.verdict.Verdict.{Verdict}
-use Rattle.association_check.specs.declared.verdict.Verdict.TheVariants as verdicts
+use Rattle.tase_verify.specs.declared.association.answered.AnsweredEvent.{AnsweredEvent}
+use Rattle.tase_verify.specs.declared.association.verdict.Verdict.{Verdict}
+use Rattle.tase_verify.specs.declared.association.verdict.Verdict.TheVariants as verdicts
 use Rattle.tase_verify.specs.declared.link_text.LinkText.{LinkText}
 use Rattle.tase_verify.specs.JournalIn.{journal_in}
 use Rattle.tase_verify.specs.LinkText.{given_in}
 use Rattle.tase_verify.specs.Verifying.{journal_setup, answered_for, verdict_for}
 use Rattle.tase_tool.specs.declared.verifying.Meant.{Meant}
-use Rattle.command_words.specs.Words.{Question}
-use Rattle.node_files.specs.Tables.{tables_in}
+use Rattle.commands.specs.Words.Words.{Question}
+use Rattle.commands.specs.Files.Tables.{tables_in}
 
 -- two hexadecimal digits of an octet, or `-` where there is none
 abbrev pub octet_word : Option ℕ → List ℕ

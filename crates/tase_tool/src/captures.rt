@@ -1,13 +1,13 @@
 //! The captures of a command.
 ghost use Rattle.std.specs.Prelude.{◌≡◌};
-ghost use Rattle.command_io.specs.declared.input.TheConstants.{TEXT_LIMIT};
-ghost use Rattle.command_io.specs.Inputs.{value_as};
-ghost use Rattle.command_io.specs.Plans.{IsSpelled, ReadsValue, octets_of};
+ghost use Rattle.commands.specs.declared.io.input.TheConstants.{TEXT_LIMIT};
+ghost use Rattle.commands.specs.Io.Inputs.{value_as};
+ghost use Rattle.commands.specs.Io.Plans.{IsSpelled, ReadsValue, octets_of};
 ghost use Rattle.capture_text.specs.Captures.{capture_in};
 
 use capture_text::read_capture;
-use command_io::{InputEnd, TEXT_LIMIT, read_input, value_or_end};
-use outside_names::Outside;
+use commands::io::{InputEnd, TEXT_LIMIT, read_input, value_or_end};
+use outside::names::Outside;
 use std::alloc::Global;
 
 // The octets of a capture, or why there are none.

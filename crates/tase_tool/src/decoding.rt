@@ -1,21 +1,21 @@
 //! The command `decode --pdu`: which PDU a capture holds.
 ghost use Rattle.std.specs.Prelude.{◌≡◌, IfOk, string_bytes, true, codes};
-ghost use Rattle.command_io.specs.Inputs.{value_as};
-ghost use Rattle.command_io.specs.Saying.{texts_of, prints, duty_to_say};
-ghost use Rattle.command_io.specs.Runs.{IsRun};
-ghost use Rattle.command_io.specs.Plans.{says, duty_by, EndsPlan, octets_of};
+ghost use Rattle.commands.specs.Io.Inputs.{value_as};
+ghost use Rattle.commands.specs.Io.Saying.{texts_of, prints, duty_to_say};
+ghost use Rattle.commands.specs.Io.Runs.{IsRun};
+ghost use Rattle.commands.specs.Io.Plans.{says, duty_by, EndsPlan, octets_of};
 ghost use Rattle.tase_tool.specs.Decoding.{pdu_said};
 ghost use Rattle.tase_tool.specs.Decoding as own;
 ghost use Rattle.tase_tool.specs.Saying.{decode_plan};
-ghost use Rattle.stream_listing.specs.Names.{message_name_text, pdu_name, why_name};
+ghost use Rattle.stack_assoc.specs.Listing.Names.{message_name_text, pdu_name, why_name};
 
 use crate::captures::read_octets;
 use ber_values::Why;
-use command_io::{InputEnd, Status, end_unread, print};
+use commands::io::{InputEnd, Status, end_unread, print};
 use mms_services::{MmsPdu, read_pdu};
-use outside_names::Outside;
+use outside::names::Outside;
+use stack_assoc::listing::{name_of_pdu, why_name};
 use std::alloc::{AllocError, Global};
-use stream_listing::{name_of_pdu, why_name};
 
 /// Reads a capture, and prints which PDU its octets are, or the first rule that they break.
 pub(crate) fn run_decode<O: Outside>(alloc: Global, outside: &mut O, capture: &str) -> Status

@@ -2,10 +2,13 @@
 #![tactic(auto)]
 
 mod captures;
+pub mod client;
 mod decoding;
 mod listing;
 mod loading;
 mod running;
+pub mod server;
 mod verifying;
 
 pub use running::run;
+pub use server_main::serving;

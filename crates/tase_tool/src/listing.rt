@@ -1,21 +1,21 @@
 //! The command `decode`: the messages of a captured stream.
 ghost use Rattle.std.specs.Prelude.{◌≡◌, ◌≤◌, ◌⊎◌, [], length, true, codes, IsErr};
-ghost use Rattle.command_io.specs.Saying.{texts_of, duty_to_say};
-ghost use Rattle.command_io.specs.Runs.{IsRun, TellsSaid};
-ghost use Rattle.command_io.specs.Plans.{says, duty_by, EndsPlan, octets_of};
+ghost use Rattle.commands.specs.Io.Saying.{texts_of, duty_to_say};
+ghost use Rattle.commands.specs.Io.Runs.{IsRun, TellsSaid};
+ghost use Rattle.commands.specs.Io.Plans.{says, duty_by, EndsPlan, octets_of};
 ghost use Rattle.capture_text.specs.Captures.{capture_in};
 ghost use Rattle.tpkt_cotp.specs.declared.limits.TheConstants.{PIECE_LIMIT};
-ghost use Rattle.stream_listing.specs.Listings.{listing_of, yet_listed};
+ghost use Rattle.stack_assoc.specs.Listing.Listings.{listing_of, yet_listed};
 ghost use Rattle.tase_tool.specs.Listing.{stream_said, listing_said, ListsOn};
 ghost use Rattle.tase_tool.specs.Listing as own;
 ghost use Rattle.tase_tool.specs.Saying.{list_plan};
 
 use capture_text::{Pieces, read_pieces};
-use command_io::{InputEnd, OUTPUT, Refusal, Status, TEXT_LIMIT, end_unread, read_input, refuse};
+use commands::io::{InputEnd, OUTPUT, Refusal, Status, TEXT_LIMIT, end_unread, read_input, refuse};
+use outside::names::Outside;
 use outside::{BufferedSink, Sink, SinkFailed, write_all};
-use outside_names::Outside;
+use stack_assoc::listing::Lister;
 use std::alloc::{AllocError, Global};
-use stream_listing::Lister;
 use tpkt_cotp::PIECE_LIMIT;
 
 /// Reads a capture, and lists the messages of the stream that its octets are.

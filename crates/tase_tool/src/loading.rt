@@ -1,12 +1,12 @@
 //! The command `load`: the generated scenario over the generated tables, and what is counted of it.
 ghost use Rattle.std.specs.Prelude.{◌≡◌, ◌≤◌, [], Some, None, Ok, IfOk, true};
-ghost use Rattle.command_io.specs.Saying.{prints, full_text, duty_to_say};
-ghost use Rattle.command_io.specs.Runs.{IsRun};
-ghost use Rattle.load_run.specs.declared.scenario.TheConstants.{MOST_ROUNDS};
-ghost use Rattle.load_run.specs.Generated as texts;
-ghost use Rattle.load_run.specs.Summaries.{summary_text};
+ghost use Rattle.commands.specs.Io.Saying.{prints, full_text, duty_to_say};
+ghost use Rattle.commands.specs.Io.Runs.{IsRun};
+ghost use Rattle.commands.specs.declared.load.scenario.TheConstants.{MOST_ROUNDS};
+ghost use Rattle.commands.specs.Load.Generated as texts;
+ghost use Rattle.commands.specs.Load.Summaries.{summary_text};
 ghost use Rattle.tase_replay.specs.Play.{Played};
-ghost use Rattle.node_files.specs.Tables.{tables_in};
+ghost use Rattle.commands.specs.Files.Tables.{tables_in};
 ghost use Rattle.tase_tool.specs.Sent.{played_on};
 ghost use Rattle.tase_tool.specs.Saying.{counted_said, load_said};
 ghost use Rattle.tase_tool.specs.Loading.{IsPlayedInMemory};
@@ -14,12 +14,14 @@ ghost use Rattle.tase_tool.specs.Saying as own;
 
 use crate::running::new_node;
 use bilateral::Centre;
-use command_io::{OUTPUT, Refusal, Status, print, refuse, tell_full};
-use command_words::HISTORY_LIMIT;
-use load_run::{KeptText, MOST_ROUNDS, spell_summary, write_load_scenario, write_load_tables};
+use commands::files::read_lines;
+use commands::io::{OUTPUT, Refusal, Status, print, refuse, tell_full};
+use commands::load::{
+    KeptText, MOST_ROUNDS, spell_summary, write_load_scenario, write_load_tables,
+};
+use commands::words::HISTORY_LIMIT;
 use node_core::Node;
-use node_files::read_lines;
-use outside_names::Outside;
+use outside::names::Outside;
 use std::alloc::{AllocError, Global};
 use tase_replay::{ReplayEnd, replay};
 

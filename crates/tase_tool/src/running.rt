@@ -1,38 +1,38 @@
 //! The commands.
 ghost use Rattle.std.specs.Prelude.{◌≡◌, ◌≤◌, ◌^◌, [], map, string_bytes, Some, IfOk, true, codes};
 ghost use Rattle.std.specs.Prelude.{false, IfSome, option_map, bytes_eq};
-ghost use Rattle.command_io.specs.Saying.{texts_of, duty_to_say, prints};
-ghost use Rattle.command_io.specs.Runs.{IsRun, TellsSaid, Took, taken_of, output_name};
-ghost use Rattle.command_io.specs.Plans.{says, duty_by, EndsPlan, octets_of};
-ghost use Rattle.command_words.specs.Words.{task_in, task_of, replays, limit_of, options_seen};
-ghost use Rattle.command_words.specs.Words.{AreOptions, IsLimited};
+ghost use Rattle.commands.specs.Io.Saying.{texts_of, duty_to_say, prints};
+ghost use Rattle.commands.specs.Io.Runs.{IsRun, TellsSaid, Took, taken_of, output_name};
+ghost use Rattle.commands.specs.Io.Plans.{says, duty_by, EndsPlan, octets_of};
+ghost use Rattle.commands.specs.Words.Words.{task_in, task_of, replays, limit_of, options_seen};
+ghost use Rattle.commands.specs.Words.Words.{AreOptions, IsLimited};
 ghost use Rattle.tase_tool.specs.Saying.{scenario_said, scenario_plan, replay_plan};
 ghost use Rattle.tase_tool.specs.Saying.{played_said, kept_said};
 ghost use Rattle.tase_tool.specs.Running.{RunsTask};
 ghost use Rattle.tase_tool.specs.Playing.{EndsPlay};
 ghost use Rattle.tase_tool.specs.Sent.{node_of, played_on, SendsSoFar, SendsOver, SendsBy};
 ghost use Rattle.tase_tool.specs.Kept.{HasPlayed};
-ghost use Rattle.command_io.specs.Statuses.{OnWhole};
+ghost use Rattle.commands.specs.Io.Statuses.{OnWhole};
 
+use crate::client::run_client_command;
 use crate::decoding::run_decode;
 use crate::listing::run_listing;
 use crate::loading::run_load;
+use crate::server::run_serve;
 use crate::verifying::run_verify;
 use bilateral::Centre;
-use client_command::run_client_command;
-use command_io::{
+use commands::files::{keep_journal, read_tables};
+use commands::io::{
     InputEnd, OUTPUT, Refusal, Status, TEXT_LIMIT, end_unread, print, read_input, tell_full,
     tell_refusal,
 };
-use command_words::{Command, Options, read_command};
+use commands::words::{Command, Options, read_command};
 use job_threads::ThreadSpawner;
 use node_core::Node;
-use node_files::{keep_journal, read_tables};
+use outside::links::Listener;
+use outside::names::Outside;
 use outside::{BufferedSink, Sink, SinkFailed};
-use outside_links::Listener;
-use outside_names::Outside;
-use serve_command::run_serve;
-use server_jobs::NodeJob;
+use server_main::serving::jobs::NodeJob;
 use std::alloc::{AllocError, Global};
 use std::sync::{Arc, Wait};
 use std::thread::Threads;

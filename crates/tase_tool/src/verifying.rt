@@ -2,36 +2,36 @@
 ghost use Rattle.std.specs.Prelude.{◌≡◌, ◌++◌, OnOk, IfOk, List, ℕ, true, codes};
 ghost use Rattle.std.specs.Prelude.{Result as AnyResult};
 ghost use Rattle.std.specs.Arc.{arc_value};
-ghost use Rattle.command_io.specs.declared.input.InputEnd.{InputEnd as AnyEnd};
-ghost use Rattle.command_io.specs.declared.input.TheConstants.{TEXT_LIMIT, JOURNAL_LIMIT};
-ghost use Rattle.command_io.specs.declared.status.Status.TheVariants.{Differs};
-ghost use Rattle.command_io.specs.Inputs.{value_as};
-ghost use Rattle.command_io.specs.Saying.{texts_of, prints, duty_to_say};
-ghost use Rattle.command_io.specs.Runs.{IsRun};
-ghost use Rattle.command_io.specs.Plans.{says, duty_by, EndsPlan, IsSpelled, ReadsValue, octets_of};
-ghost use Rattle.association_check.specs.declared.verdict.Verdict.{Verdict as AnyVerdict};
+ghost use Rattle.commands.specs.declared.io.input.InputEnd.{InputEnd as AnyEnd};
+ghost use Rattle.commands.specs.declared.io.input.TheConstants.{TEXT_LIMIT, JOURNAL_LIMIT};
+ghost use Rattle.commands.specs.declared.io.status.Status.TheVariants.{Differs};
+ghost use Rattle.commands.specs.Io.Inputs.{value_as};
+ghost use Rattle.commands.specs.Io.Saying.{texts_of, prints, duty_to_say};
+ghost use Rattle.commands.specs.Io.Runs.{IsRun};
+ghost use Rattle.commands.specs.Io.Plans.{says, duty_by, EndsPlan, IsSpelled, ReadsValue, octets_of};
+ghost use Rattle.tase_verify.specs.declared.association.verdict.Verdict.{Verdict as AnyVerdict};
 ghost use Rattle.tase_views.specs.History.{Past};
 ghost use Rattle.tase_verify.specs.JournalIn.{journal_in};
 ghost use Rattle.tase_verify.specs.LinkText.{given_in};
 ghost use Rattle.tase_verify.specs.Verifying.{journal_setup, verdict_for};
-ghost use Rattle.command_words.specs.Words.{question_seen};
+ghost use Rattle.commands.specs.Words.Words.{question_seen};
 ghost use Rattle.tase_tool.specs.Verifying.{verdict_said, link_given, AreAnswers, IsMeant};
 ghost use Rattle.tase_tool.specs.Verifying.{sent_plan, given_plan, journal_plan, verify_plan};
 ghost use Rattle.tase_tool.specs.Verifying as own;
 
 use crate::captures::read_octets;
-use association_check::{AnsweredEvent, Verdict};
 use bilateral::Centre;
-use command_io::{
+use commands::files::read_tables;
+use commands::io::{
     InputEnd, JOURNAL_LIMIT, Status, TEXT_LIMIT, end_unread, print, read_input, value_or_end,
 };
-use command_words::Question;
-use node_files::read_tables;
-use outside_names::Outside;
+use commands::words::Question;
+use outside::names::Outside;
 use plain_text::{push_decimal, push_hex};
 use sbo_device::Key;
 use std::alloc::{AllocError, Global};
 use std::sync::Arc;
+use tase_verify::association::{AnsweredEvent, Verdict};
 use tase_verify::{LinkText, read_journal, read_link_text, verify_association};
 
 /// An association, as a journal tells it.

@@ -4,3 +4,4 @@ pub mod Watched
 mod WorkedLinks
 pub mod Taking
 mod WorkedJournals
+pub mod OfAssociation

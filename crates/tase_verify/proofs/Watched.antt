@@ -16,8 +16,8 @@ use Rattle.tase_views.specs.History.{next_key}
 use Rattle.tase_views.specs.Outcomes.{first_refusal, seat_refusal_by, refusal_of, answer_at}
 use Rattle.tase_views.specs.Outcomes.{answer_of, IsAnswer}
 use Rattle.tase_views.proofs.Seated.{one_seat, same_parts}
-use Rattle.association_check.specs.declared.answered.AnsweredEvent.{AnsweredEvent}
-use Rattle.association_check.specs.Answered.{answered_at}
+use Rattle.tase_verify.specs.declared.association.answered.AnsweredEvent.{AnsweredEvent}
+use Rattle.tase_verify.specs.Association.Answered.{answered_at}
 use Rattle.tase_verify.specs.Verifying.{answered_for}
 use Rattle.tase_verify.specs.Watching.{is_meant, is_followed, HoldsSeat, IsWatched, opens_by}
 use Rattle.tase_verify.specs.Watching.{kept_of, is_told, with_event, seat_after, events_after}

@@ -7,7 +7,7 @@ use Rattle.tase_views.specs.declared.event.Entry.{Entry}
 use Rattle.tase_views.specs.Setup.{Setup}
 use Rattle.tase_views.specs.History.{Past}
 use Rattle.tase_views.specs.Outcomes.{refusal_of}
-use Rattle.journal_text.specs.Entries.{entry_in}
+use Rattle.texts.specs.Journal.Entries.{entry_in}
 
 -- whether a text ends with LF; one without octets lacks none
 abbrev pub is_ended : List ℕ → Bool

@@ -4,3 +4,4 @@ pub mod Cuts
 pub mod Verifying
 pub mod Watching
 pub mod Reading
+pub mod Association

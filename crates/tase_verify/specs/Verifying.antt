@@ -4,11 +4,11 @@ use Rattle.bilateral.specs.Rows.{CentreRows}
 use Rattle.sbo_device.specs.declared.key.Key.{Key}
 use Rattle.tase_views.specs.Setup.{Setup}
 use Rattle.tase_views.specs.History.{Past}
-use Rattle.association_check.specs.declared.answered.AnsweredEvent.{AnsweredEvent}
-use Rattle.association_check.specs.declared.verdict.Verdict.{Verdict}
-use Rattle.association_check.specs.declared.verdict.Verdict.TheVariants.{Stray}
-use Rattle.association_check.specs.Answered.{answered_in}
-use Rattle.association_check.specs.Verdicts.{verdict_of}
+use Rattle.tase_verify.specs.declared.association.answered.AnsweredEvent.{AnsweredEvent}
+use Rattle.tase_verify.specs.declared.association.verdict.Verdict.{Verdict}
+use Rattle.tase_verify.specs.declared.association.verdict.Verdict.TheVariants.{Stray}
+use Rattle.tase_verify.specs.Association.Answered.{answered_in}
+use Rattle.tase_verify.specs.Association.Verdicts.{verdict_of}
 use Rattle.tase_verify.specs.declared.journal.TheConstants.{JOURNAL_LIMIT}
 use Rattle.tase_verify.specs.JournalIn.{journal_in}
 

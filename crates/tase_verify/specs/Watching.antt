@@ -8,7 +8,7 @@ use Rattle.tase_views.specs.declared.reply.Answer.TheVariants.{Opened, Closed}
 use Rattle.tase_views.specs.Setup.{Setup}
 use Rattle.tase_views.specs.Moves.{EventSort, opening, sort_of}
 use Rattle.tase_views.specs.History.{Past, is_key, association_in}
-use Rattle.association_check.specs.declared.answered.AnsweredEvent.{AnsweredEvent}
+use Rattle.tase_verify.specs.declared.association.answered.AnsweredEvent.{AnsweredEvent}
 use Rattle.tase_verify.specs.Verifying.{answered_for}
 
 -- whether an association is the one that is meant

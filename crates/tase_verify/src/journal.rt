@@ -7,16 +7,16 @@ ghost use Rattle.tase_verify.specs.JournalIn.{journal_in, has_lines, past_with, 
 ghost use Rattle.tase_verify.specs.Verifying.{journal_setup, IsJournal};
 ghost use Rattle.tase_verify.specs.Reading.{IsTaken, past_of, TakesLine, TakesLines};
 
+use crate::association::AnsweredEvent;
 use crate::watch::Watch;
-use association_check::AnsweredEvent;
 use bilateral::Centre;
-use journal_text::read_entry;
 use node_core::Node;
 use plain_text::next_line;
 use sbo_device::Key;
 use std::alloc::{AllocError, Global};
 use std::sync::Arc;
 use tase_views::{Answer, Entry, Event, StepFault};
+use texts::journal::read_entry;
 
 /// What the history of a journal may weigh at most, in octets.
 const JOURNAL_LIMIT: u64 = 2_147_483_648;

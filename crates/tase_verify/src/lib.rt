@@ -1,6 +1,7 @@
 //! Whether what was captured of a link is what its association is owed, by a journal.
 #![tactic(auto)]
 
+pub mod association;
 mod journal;
 mod link_text;
 mod verify;

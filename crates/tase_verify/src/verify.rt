@@ -4,8 +4,8 @@ ghost use Rattle.tase_views.specs.Setup.{Setup};
 ghost use Rattle.tase_views.specs.History.{Past};
 ghost use Rattle.tase_verify.specs.Verifying.{answered_for, verdict_for};
 
+use crate::association::{AnsweredEvent, Verdict, check_association};
 use crate::link_text::LinkText;
-use association_check::{AnsweredEvent, Verdict, check_association};
 use bilateral::Centre;
 use sbo_device::Key;
 use std::alloc::{AllocError, Global};

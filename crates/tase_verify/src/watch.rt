@@ -3,7 +3,7 @@ ghost use Rattle.std.specs.Prelude.{◌≡◌, [], None, IfOk, OnOk};
 ghost use Rattle.tase_views.specs.declared.event.EventKind.{EventKind};
 ghost use Rattle.tase_verify.specs.Watching as own;
 
-use association_check::AnsweredEvent;
+use crate::association::AnsweredEvent;
 use sbo_device::Key;
 use std::alloc::{AllocError, Global};
 use tase_views::{Answer, Event, EventKind};

@@ -9,7 +9,7 @@ use Rattle.std.proofs.lemmas.Bool.{false≢true, and_parts, leb-true, cases_lt, 
 use Rattle.std.proofs.lemmas.Bool.{eqb-true}
 use Rattle.std.proofs.lemmas.List.{get_or_past}
 use Rattle.ber_values.specs.Visible.{is_visible_octet}
-use Rattle.table_words.proofs.VisibleWords.{IsVisible-from_identifier}
+use Rattle.bilateral.proofs.OfWords.VisibleWords.{IsVisible-from_identifier}
 use Rattle.bilateral.specs.declared.rows.Table.{Table}
 use Rattle.bilateral.specs.Rows.{CentreRows, IsCentre, table_of, variants_of, no_table}
 use Rattle.sbo_device.specs.SameMoves.{TellsApart}

@@ -5,7 +5,7 @@ use Rattle.std.specs.List.{flat_map}
 use Rattle.std.proofs.lemmas.List.{length-append}
 use Rattle.mms_data.specs.Datum.{Datum}
 use Rattle.mms_data.specs.ObjectName.{ObjectName}
-use Rattle.mms_text.specs.Texts.{name_text, data_text}
+use Rattle.mms_data.specs.Text.Texts.{name_text, data_text}
 use Rattle.tase_views.specs.EventTexts.{next_name, next_value, assigned_text}
 
 names_by_suc : (names : List ObjectName) (i : ℕ) (d : ObjectName) → i < length names

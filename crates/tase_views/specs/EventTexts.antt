@@ -10,7 +10,7 @@ use Rattle.tase_points.specs.Sample.{Sample}
 use Rattle.mms_data.specs.Datum.{Datum}
 use Rattle.mms_data.specs.ObjectName.{ObjectName}
 use Rattle.sbo_device.specs.Moves.{Tag}
-use Rattle.mms_text.specs.Texts.{data_text, scope_text, name_text}
+use Rattle.mms_data.specs.Text.Texts.{data_text, scope_text, name_text}
 use Rattle.tase_views.specs.declared.call.CallKind.{CallKind}
 use Rattle.tase_views.specs.declared.call.CallKind.TheVariants.{Identify, Read, ReadSet, Write}
 use Rattle.tase_views.specs.declared.call.CallKind.TheVariants.{WriteSet, NameList, Define}

@@ -7,7 +7,7 @@ use Rattle.std.specs.List.{list_all}
 use Rattle.mms_data.specs.declared.object_name.Scope.TheVariants.{Domain}
 use Rattle.mms_data.specs.ObjectName.{ObjectName, same_scope, same_name}
 use Rattle.data_sets.specs.declared.book.TheConstants.{MOST_MEMBERS}
-use Rattle.table_words.specs.Words.{is_identifier}
+use Rattle.bilateral.specs.Words.Words.{is_identifier}
 use Rattle.tase_views.specs.declared.reply.TheConstants.{ACCESS_ERRORS, ACCESS_DENIED}
 use Rattle.tase_views.specs.declared.reply.TheConstants.{DEFINITION_ERRORS, UNDEFINED, EXISTS}
 use Rattle.tase_views.specs.declared.reply.TheConstants.{RESOURCE_ERRORS, OTHER}

@@ -14,8 +14,8 @@ use crate::call::{Call, CallKind};
 use crate::event::{Event, EventKind};
 use crate::tag::DeviceTag;
 use ber_values::Visible;
+use mms_data::text::{data_text_len, name_text_len, scope_text_len};
 use mms_data::{MmsData, Name, Scope};
-use mms_text::{data_text_len, name_text_len, scope_text_len};
 use plain_text::{add_len, decimal_len, escaped_len, signed_decimal_len};
 use tase_points::{Body, PointValue};
 

@@ -1,5 +1,5 @@
 use Rattle.std.proofs.Common.{sym}
-use Rattle.table_words.proofs.VisibleWords.{IsVisible-from_identifier}
+use Rattle.bilateral.proofs.OfWords.VisibleWords.{IsVisible-from_identifier}
 use Rattle.bilateral.proofs.line.read_peer.Goals as goal
 
 pub visible_word-requires : goal.visible_word-requires

@@ -1,5 +1,5 @@
 use Rattle.std.proofs.Common.{sym}
-use Rattle.table_words.proofs.VisibleWords.{IsVisible-from_name}
+use Rattle.bilateral.proofs.OfWords.VisibleWords.{IsVisible-from_name}
 use Rattle.bilateral.proofs.see_line.read_see.Goals as goal
 
 pub visible_word-requires : goal.visible_word-requires

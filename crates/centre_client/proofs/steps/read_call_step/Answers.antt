@@ -2,7 +2,7 @@ use Rattle.std.proofs.Common.{◌≡◌, Option, ap, sym, subst}
 use Rattle.std.specs.Prelude.{IfOk}
 use Rattle.plain_text.specs.Words.{words}
 use Rattle.tase_views.specs.declared.call.CallKind.{CallKind}
-use Rattle.journal_text.proofs.CallRead as whole
+use Rattle.texts.proofs.OfJournal.CallRead as whole
 use Rattle.centre_client.specs.StepLines.{call_step}
 use Rattle.centre_client.proofs.steps.read_call_step.Goals as goal
 

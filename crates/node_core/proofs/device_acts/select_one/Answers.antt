@@ -10,8 +10,8 @@ use Rattle.sbo_device.specs.Banks.{BankState, moved_at}
 use Rattle.tase_views.specs.OwnTables.{own_device}
 use Rattle.tase_views.specs.Objects.{Object, object_named, selection}
 use Rattle.tase_views.specs.Devices.{read_deed}
-use Rattle.node_devices.specs.DeviceBanks.{devices_by}
-use Rattle.node_devices.proofs.Numbers.{number_found}
+use Rattle.node_core.specs.Devices.DeviceBanks.{devices_by}
+use Rattle.node_core.proofs.OfDevices.Numbers.{number_found}
 use Rattle.node_core.specs.Found.{offered}
 use Rattle.node_core.proofs.device_acts.select_one.Goals as goal
 use Rattle.node_core.proofs.device_acts.select_one.Goals.{In-Some-Selection}

@@ -4,8 +4,8 @@ use Rattle.std.proofs.lemmas.List.Elements.{All-contains}
 use Rattle.bilateral.specs.declared.rows.Control.{Control}
 use Rattle.tase_views.specs.OwnTables.{own_device}
 use Rattle.tase_views.specs.Objects.{Object, object_named, control_point, device_tag}
-use Rattle.node_devices.specs.DeviceBanks.{number_of}
-use Rattle.node_devices.proofs.Numbers.{number_found}
+use Rattle.node_core.specs.Devices.DeviceBanks.{number_of}
+use Rattle.node_core.proofs.OfDevices.Numbers.{number_found}
 use Rattle.node_core.specs.Found.{offered}
 use Rattle.node_core.specs.SlotWrites.{operate_asked, tagging_asked, asked_of}
 use Rattle.node_core.proofs.Answered.{ok_of}

@@ -1,5 +1,5 @@
 use Rattle.std.proofs.Common.{subst}
-use Rattle.server_run.specs.Gathering.{TicksStarted}
+use Rattle.server_main.specs.Run.Gathering.{TicksStarted}
 use Rattle.server_main.proofs.gathered.gather_clock.Goals as goal
 
 pub returns-in-None-clause-gathers : goal.returns-in-None-clause-gathers

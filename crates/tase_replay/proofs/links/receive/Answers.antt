@@ -1,5 +1,5 @@
 use Rattle.std.proofs.Common.{[], ◌∷◌, ◌++◌, reverse}
-use Rattle.conn_laws.proofs.Kept.{taken_serves}
+use Rattle.conn_service.proofs.OfCourses.Kept.{taken_serves}
 use Rattle.tase_replay.specs.Links.{item_seen}
 use Rattle.tase_replay.proofs.Receiving.{received_on}
 use Rattle.tase_replay.proofs.links.receive.Goals as goal

@@ -1,4 +1,4 @@
-use Rattle.tase_conn.specs.Talking.{pending_of}
+use Rattle.conn_service.specs.TaseConn.Talking.{pending_of}
 use Rattle.std.proofs.Common.{◌∙◌}
 use Rattle.tase_replay.proofs.Pending.{digits_on, digits_done, fewer_left, none_pending}
 use Rattle.tase_replay.proofs.Pending.{none_next, some_next, sent_on}

@@ -1,8 +1,8 @@
 use Rattle.std.proofs.Common.{◌≡◌, ◌++◌, length}
 use Rattle.plain_text.specs.Octets.{hex_text}
-use Rattle.tase_conn.specs.Talking.{pending_of}
-use Rattle.tase_conn.specs.Places.{KeepsPlace}
-use Rattle.tase_conn.specs.Taken.{SendsSome}
+use Rattle.conn_service.specs.TaseConn.Talking.{pending_of}
+use Rattle.conn_service.specs.TaseConn.Places.{KeepsPlace}
+use Rattle.conn_service.specs.TaseConn.Taken.{SendsSome}
 use Rattle.tase_replay.proofs.printing.put_all.Given as goal
 
 abbrev pub invariant-loop-text : goal.invariant-loop-text

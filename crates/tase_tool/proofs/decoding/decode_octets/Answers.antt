@@ -1,6 +1,6 @@
 use Rattle.std.proofs.Common.{true, subst}
-use Rattle.command_io.specs.Runs.{IsRun}
-use Rattle.command_io.specs.Saying.{duty_to_say}
+use Rattle.commands.specs.Io.Runs.{IsRun}
+use Rattle.commands.specs.Io.Saying.{duty_to_say}
 use Rattle.tase_tool.specs.Decoding.{pdu_said}
 use Rattle.tase_tool.proofs.decoding.decode_octets.Goals as goal
 

@@ -1,6 +1,6 @@
 use Rattle.std.proofs.Common.{true, sym, subst}
-use Rattle.command_io.specs.Saying.{duty_to_say}
-use Rattle.command_io.specs.Runs.{IsRun}
+use Rattle.commands.specs.Io.Saying.{duty_to_say}
+use Rattle.commands.specs.Io.Runs.{IsRun}
 use Rattle.tase_tool.proofs.Telling.{said_of_pdu, said_of_fault}
 use Rattle.tase_tool.proofs.decoding.decode_pdu.Goals as goal
 

@@ -1,7 +1,7 @@
 use Rattle.std.proofs.Common.{[]}
-use Rattle.command_io.specs.Inputs.{value_as}
-use Rattle.command_io.specs.Plans.{says, octets_of}
-use Rattle.command_io.proofs.Plans.{IsRun-value, Fits-alone}
+use Rattle.commands.specs.Io.Inputs.{value_as}
+use Rattle.commands.specs.Io.Plans.{says, octets_of}
+use Rattle.commands.proofs.OfIo.Plans.{IsRun-value, Fits-alone}
 use Rattle.capture_text.specs.Captures.{capture_in}
 use Rattle.tase_tool.specs.Decoding.{pdu_said}
 use Rattle.tase_tool.specs.Saying.{capture_asked}

@@ -1,7 +1,7 @@
 use Rattle.std.proofs.Common.{true, ap, ◌∙◌, subst}
-use Rattle.command_io.specs.declared.status.Status.TheVariants.{Input}
-use Rattle.command_io.specs.Saying.{prints, duty_to_say}
-use Rattle.command_io.specs.Runs.{IsRun}
+use Rattle.commands.specs.declared.io.status.Status.TheVariants.{Input}
+use Rattle.commands.specs.Io.Saying.{prints, duty_to_say}
+use Rattle.commands.specs.Io.Runs.{IsRun}
 use Rattle.tase_tool.specs.Decoding.{pdu_fault_line}
 use Rattle.tase_tool.proofs.decoding.tell_fault.Goals as goal
 

@@ -2,11 +2,11 @@ use Rattle.std.proofs.Common.{false, sym, subst}
 use Rattle.outside.specs.Sink.{AppendsPart}
 use Rattle.outside.specs.Buffered.{buffered_told, Finishes}
 use Rattle.outside.proofs.Writing.{AppendsPart-none}
-use Rattle.command_io.specs.Runs.{TellsSaid}
-use Rattle.command_io.specs.declared.status.Status.TheVariants.{Outside}
-use Rattle.stream_listing.specs.Listings.{listing_of}
+use Rattle.commands.specs.Io.Runs.{TellsSaid}
+use Rattle.commands.specs.declared.io.status.Status.TheVariants.{Outside}
+use Rattle.stack_assoc.specs.Listing.Listings.{listing_of}
 use Rattle.tase_tool.specs.Listing.{listing_said}
-use Rattle.node_files.proofs.Handed.{Tells-handed, Tells-unhanded, Tells-failed}
+use Rattle.commands.proofs.OfFiles.Handed.{Tells-handed, Tells-unhanded, Tells-failed}
 use Rattle.tase_tool.proofs.listing.list_gathered.Goals as goal
 
 pub returns-in-Err : goal.returns-in-Err

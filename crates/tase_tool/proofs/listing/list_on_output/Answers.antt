@@ -1,6 +1,6 @@
 use Rattle.std.proofs.Common.{true, refl}
-use Rattle.command_io.proofs.Printing.{IsRun-printed, IsRun-unprinted}
-use Rattle.stream_listing.specs.Listings.{listing_of}
+use Rattle.commands.proofs.OfIo.Printing.{IsRun-printed, IsRun-unprinted}
+use Rattle.stack_assoc.specs.Listing.Listings.{listing_of}
 use Rattle.tase_tool.specs.Listing.{listing_said}
 use Rattle.tase_tool.proofs.Listed.{lists_command}
 use Rattle.tase_tool.proofs.listing.list_on_output.Goals as goal

@@ -1,6 +1,6 @@
 use Rattle.std.proofs.Common.{true, subst}
-use Rattle.command_io.specs.Runs.{IsRun}
-use Rattle.command_io.specs.Saying.{duty_to_say}
+use Rattle.commands.specs.Io.Runs.{IsRun}
+use Rattle.commands.specs.Io.Saying.{duty_to_say}
 use Rattle.capture_text.specs.Captures.{capture_in}
 use Rattle.tase_tool.specs.Listing.{stream_said}
 use Rattle.tase_tool.proofs.listing.list_read.Goals as goal

@@ -1,6 +1,6 @@
 use Rattle.std.proofs.Common.{[]}
-use Rattle.command_io.specs.Plans.{says}
-use Rattle.command_io.proofs.Plans.{IsRun-reads, Fits-alone}
+use Rattle.commands.specs.Io.Plans.{says}
+use Rattle.commands.proofs.OfIo.Plans.{IsRun-reads, Fits-alone}
 use Rattle.capture_text.specs.Captures.{capture_in}
 use Rattle.tase_tool.specs.Listing.{stream_said}
 use Rattle.tase_tool.specs.Saying.{capture_asked}

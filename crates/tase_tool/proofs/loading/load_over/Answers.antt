@@ -1,6 +1,6 @@
 use Rattle.std.proofs.Common.{true, Ok, refl}
-use Rattle.command_io.specs.Saying.{duty_to_say}
-use Rattle.command_io.proofs.Running.{IsRun-idle}
+use Rattle.commands.specs.Io.Saying.{duty_to_say}
+use Rattle.commands.proofs.OfIo.Running.{IsRun-idle}
 use Rattle.tase_tool.specs.Saying as own
 use Rattle.tase_tool.proofs.loading.load_over.Goals as goal
 

@@ -1,7 +1,7 @@
 use Rattle.std.proofs.Common.{true, refl}
-use Rattle.command_io.specs.declared.status.Status.TheVariants.{Full}
-use Rattle.command_io.specs.Saying.{prints, full_text}
-use Rattle.command_io.proofs.Printing.{IsRun-printed, answers_words}
+use Rattle.commands.specs.declared.io.status.Status.TheVariants.{Full}
+use Rattle.commands.specs.Io.Saying.{prints, full_text}
+use Rattle.commands.proofs.OfIo.Printing.{IsRun-printed, answers_words}
 use Rattle.tase_tool.proofs.loading.print_full.Goals as goal
 
 pub returns : goal.returns

@@ -1,7 +1,7 @@
 use Rattle.std.proofs.Common.{true, ◌∙◌, subst}
-use Rattle.command_io.specs.declared.status.Status.TheVariants.{Done}
-use Rattle.command_io.specs.Saying.{prints, duty_to_say}
-use Rattle.command_io.specs.Runs.{IsRun}
+use Rattle.commands.specs.declared.io.status.Status.TheVariants.{Done}
+use Rattle.commands.specs.Io.Saying.{prints, duty_to_say}
+use Rattle.commands.specs.Io.Runs.{IsRun}
 use Rattle.tase_tool.proofs.loading.print_summary.Goals as goal
 
 pub returns-in-Ok : goal.returns-in-Ok

@@ -1,10 +1,10 @@
 use Rattle.std.proofs.Common.{◌≡◌, List, ◌++◌, ap, ◌∙◌}
 use Rattle.tase_views.specs.declared.event.Entry.{Entry}
 use Rattle.tase_replay.specs.Play.{shown_of, steps_of, entries_in}
-use Rattle.journal_text.specs.Journals.{journal_text}
+use Rattle.texts.specs.Journal.Journals.{journal_text}
 use Rattle.tase_tool.specs.Saying.{played_said, journal_of}
 use Rattle.tase_tool.specs.Sent.{played_on}
-use Rattle.command_io.proofs.Running.{OnWhole-map}
+use Rattle.commands.proofs.OfIo.Running.{OnWhole-map}
 use Rattle.tase_tool.proofs.Playing.{plays_alone}
 use Rattle.tase_tool.proofs.Keeping.{IsRun-kept, SendsSoFar-kept}
 use Rattle.tase_tool.proofs.running.play_and_keep.Goals as goal

@@ -2,12 +2,12 @@ use Rattle.std.proofs.Common.{ℕ, List, [], false, refl, sym, subst}
 use Rattle.outside.specs.Sink.{AppendsPart}
 use Rattle.outside.specs.Buffered.{buffered_told, Finishes}
 use Rattle.outside.proofs.Writing.{AppendsPart-none}
-use Rattle.command_io.specs.Runs.{TellsSaid}
-use Rattle.command_io.specs.declared.status.Status.TheVariants.{Outside, Memory}
-use Rattle.command_io.specs.Saying.{prints}
+use Rattle.commands.specs.Io.Runs.{TellsSaid}
+use Rattle.commands.specs.declared.io.status.Status.TheVariants.{Outside, Memory}
+use Rattle.commands.specs.Io.Saying.{prints}
 use Rattle.tase_tool.specs.Saying.{played_said}
 use Rattle.tase_tool.specs.Sent.{played_on, SendsSoFar}
-use Rattle.node_files.proofs.Handed.{Tells-handed, Tells-unhanded, Tells-failed}
+use Rattle.commands.proofs.OfFiles.Handed.{Tells-handed, Tells-unhanded, Tells-failed}
 use Rattle.tase_tool.proofs.Sending.{SendsSoFar-further, SendsSoFar-none}
 use Rattle.tase_tool.proofs.running.play_gathered.Goals as goal
 

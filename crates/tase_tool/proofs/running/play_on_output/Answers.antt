@@ -1,8 +1,8 @@
 use Rattle.std.proofs.Common.{List, [], ℕ, true, refl}
-use Rattle.command_io.specs.declared.status.Status.TheVariants.{Outside}
-use Rattle.command_io.specs.Saying.{prints}
-use Rattle.command_io.specs.Runs.{IsSaid, TellsSaid, Took}
-use Rattle.command_io.proofs.Printing.{IsRun-printed, IsRun-unprinted}
+use Rattle.commands.specs.declared.io.status.Status.TheVariants.{Outside}
+use Rattle.commands.specs.Io.Saying.{prints}
+use Rattle.commands.specs.Io.Runs.{IsSaid, TellsSaid, Took}
+use Rattle.commands.proofs.OfIo.Printing.{IsRun-printed, IsRun-unprinted}
 use Rattle.tase_replay.specs.Play.{shown_of}
 use Rattle.tase_tool.specs.Saying.{played_said}
 use Rattle.tase_tool.specs.Sent.{played_on}

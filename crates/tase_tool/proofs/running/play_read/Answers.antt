@@ -1,7 +1,7 @@
 use Rattle.std.proofs.Common.{true, subst}
-use Rattle.command_io.specs.Runs.{IsRun, Took}
-use Rattle.command_io.specs.Saying.{duty_to_say}
-use Rattle.command_words.specs.Words.{limit_of, options_seen}
+use Rattle.commands.specs.Io.Runs.{IsRun, Took}
+use Rattle.commands.specs.Io.Saying.{duty_to_say}
+use Rattle.commands.specs.Words.Words.{limit_of, options_seen}
 use Rattle.tase_tool.specs.Saying.{scenario_said}
 use Rattle.tase_tool.specs.Sent.{node_of, SendsSoFar}
 use Rattle.tase_tool.proofs.Sending.{output_of}

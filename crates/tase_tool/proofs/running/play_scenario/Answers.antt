@@ -1,9 +1,9 @@
 use Rattle.std.proofs.Common.{refl, subst, true, option_map}
-use Rattle.command_io.specs.declared.status.Status.TheVariants.{Memory}
-use Rattle.command_io.specs.Saying.{duty_to_say}
-use Rattle.command_io.specs.Runs.{IsRun, Took}
-use Rattle.command_words.specs.Words.{limit_of, options_seen}
-use Rattle.command_io.proofs.Running.{IsRun-idle}
+use Rattle.commands.specs.declared.io.status.Status.TheVariants.{Memory}
+use Rattle.commands.specs.Io.Saying.{duty_to_say}
+use Rattle.commands.specs.Io.Runs.{IsRun, Took}
+use Rattle.commands.specs.Words.Words.{limit_of, options_seen}
+use Rattle.commands.proofs.OfIo.Running.{IsRun-idle}
 use Rattle.tase_tool.specs.Saying.{kept_said, scenario_said}
 use Rattle.tase_tool.specs.Sent.{node_of, played_on, SendsSoFar}
 use Rattle.tase_tool.proofs.Sending.{output_of, SendsSoFar-still}

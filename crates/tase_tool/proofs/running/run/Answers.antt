@@ -1,8 +1,8 @@
 use Rattle.std.proofs.Common.{refl, subst}
-use Rattle.command_io.specs.declared.status.Status.TheVariants.{Memory}
-use Rattle.command_io.specs.Saying.{texts_of}
+use Rattle.commands.specs.declared.io.status.Status.TheVariants.{Memory}
+use Rattle.commands.specs.Io.Saying.{texts_of}
 use Rattle.std.specs.Prelude.{map, string_bytes}
-use Rattle.command_words.specs.Words.{task_in}
+use Rattle.commands.specs.Words.Words.{task_in}
 use Rattle.tase_tool.specs.Running.{RunsTask}
 use Rattle.tase_tool.specs.Sent.{SendsBy}
 use Rattle.tase_tool.proofs.Sending.{output_of}

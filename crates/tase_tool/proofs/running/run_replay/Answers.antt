@@ -1,6 +1,6 @@
-use Rattle.command_io.proofs.Plans.{IsRun-value}
-use Rattle.command_words.specs.Words.{options_seen}
-use Rattle.node_files.specs.Tables.{tables_in}
+use Rattle.commands.proofs.OfIo.Plans.{IsRun-value}
+use Rattle.commands.specs.Words.Words.{options_seen}
+use Rattle.commands.specs.Files.Tables.{tables_in}
 use Rattle.tase_tool.specs.Saying.{tables_asked, scenario_plan}
 use Rattle.tase_tool.proofs.Duties.{scenario_fits, SendsBy-read}
 use Rattle.tase_tool.proofs.running.run_replay.Goals as goal

@@ -1,8 +1,8 @@
 use Rattle.std.specs.Prelude.{Vec, ℕ}
 use Rattle.std.specs.declared.alloc.Global.{Global}
-use Rattle.command_io.specs.Plans.{says, octets_of}
-use Rattle.command_io.proofs.Plans.{IsRun-reads}
-use Rattle.command_words.specs.Words.{limit_of, options_seen}
+use Rattle.commands.specs.Io.Plans.{says, octets_of}
+use Rattle.commands.proofs.OfIo.Plans.{IsRun-reads}
+use Rattle.commands.specs.Words.Words.{limit_of, options_seen}
 use Rattle.tase_tool.specs.Saying.{scenario_said, scenario_asked}
 use Rattle.tase_tool.specs.Sent.{node_of}
 use Rattle.tase_tool.proofs.Duties.{said_fits, SendsOn-read}

@@ -1,5 +1,5 @@
 use Rattle.std.proofs.Common.{refl, sym, subst, Some, inl}
-use Rattle.command_words.specs.Words.{task_of}
+use Rattle.commands.specs.Words.Words.{task_of}
 use Rattle.tase_tool.specs.Running.{RunsTask}
 use Rattle.tase_tool.proofs.running.run_task.Goals as goal
 

@@ -1,8 +1,8 @@
 use Rattle.std.proofs.Common.{codes, [], ◌∷◌}
-use Rattle.command_io.specs.declared.input.TheConstants.{TEXT_LIMIT}
-use Rattle.command_io.proofs.Plans.{IsRun-value}
-use Rattle.command_words.specs.Words.{question_seen}
-use Rattle.node_files.specs.Tables.{tables_in}
+use Rattle.commands.specs.declared.io.input.TheConstants.{TEXT_LIMIT}
+use Rattle.commands.proofs.OfIo.Plans.{IsRun-value}
+use Rattle.commands.specs.Words.Words.{question_seen}
+use Rattle.commands.specs.Files.Tables.{tables_in}
 use Rattle.tase_tool.specs.Verifying.{input_asked, journal_plan}
 use Rattle.tase_tool.proofs.Verified.{journal_fits}
 use Rattle.tase_tool.proofs.verifying.run_verify.Goals as goal

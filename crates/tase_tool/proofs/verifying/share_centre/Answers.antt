@@ -1,10 +1,10 @@
 use Rattle.std.proofs.Common.{subst}
-use Rattle.command_io.specs.Saying.{texts_of}
-use Rattle.command_io.specs.Runs.{IsRun}
-use Rattle.command_io.specs.Plans.{duty_by}
-use Rattle.command_io.proofs.Running.{IsRun-idle}
-use Rattle.command_io.proofs.Plans.{plan_command}
-use Rattle.command_words.specs.Words.{question_seen}
+use Rattle.commands.specs.Io.Saying.{texts_of}
+use Rattle.commands.specs.Io.Runs.{IsRun}
+use Rattle.commands.specs.Io.Plans.{duty_by}
+use Rattle.commands.proofs.OfIo.Running.{IsRun-idle}
+use Rattle.commands.proofs.OfIo.Plans.{plan_command}
+use Rattle.commands.specs.Words.Words.{question_seen}
 use Rattle.tase_tool.specs.Verifying.{journal_plan}
 use Rattle.tase_tool.proofs.verifying.share_centre.Goals as goal
 

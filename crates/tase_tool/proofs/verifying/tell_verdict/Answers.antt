@@ -1,6 +1,6 @@
 use Rattle.std.proofs.Common.{true, subst}
-use Rattle.command_io.specs.Saying.{duty_to_say}
-use Rattle.command_io.specs.Runs.{IsRun}
+use Rattle.commands.specs.Io.Saying.{duty_to_say}
+use Rattle.commands.specs.Io.Runs.{IsRun}
 use Rattle.tase_tool.specs.Verifying.{verdict_said}
 use Rattle.tase_tool.proofs.Verified.{verdict_told}
 use Rattle.tase_tool.proofs.verifying.tell_verdict.Goals as goal

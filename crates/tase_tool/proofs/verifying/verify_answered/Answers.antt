@@ -1,5 +1,5 @@
 use Rattle.std.proofs.Common.{◌∙◌}
-use Rattle.command_words.specs.Words.{question_seen}
+use Rattle.commands.specs.Words.Words.{question_seen}
 use Rattle.tase_tool.specs.Verifying.{given_plan}
 use Rattle.tase_tool.proofs.Verified.{answered_there, answered_unread}
 use Rattle.tase_tool.proofs.verifying.verify_answered.Goals as goal

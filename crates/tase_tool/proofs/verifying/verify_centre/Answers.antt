@@ -1,7 +1,7 @@
 use Rattle.std.proofs.Common.{◌∙◌, ap, subst, codes}
 use Rattle.std.specs.Arc.{arc_value}
-use Rattle.command_io.specs.Plans.{EndsPlan}
-use Rattle.command_words.specs.Words.{question_seen}
+use Rattle.commands.specs.Io.Plans.{EndsPlan}
+use Rattle.commands.specs.Words.Words.{question_seen}
 use Rattle.tase_tool.specs.Verifying.{key_meant, given_plan, AreAnswers}
 use Rattle.tase_tool.proofs.Verified.{IsRun-journal}
 use Rattle.tase_tool.proofs.verifying.verify_centre.Goals as goal

@@ -1,11 +1,11 @@
 use Rattle.std.proofs.Common.{codes, []}
-use Rattle.command_io.specs.declared.input.TheConstants.{TEXT_LIMIT}
-use Rattle.command_io.specs.Inputs.{value_as}
-use Rattle.command_io.specs.Plans.{says, octets_of}
-use Rattle.command_io.proofs.Plans.{IsRun-value}
+use Rattle.commands.specs.declared.io.input.TheConstants.{TEXT_LIMIT}
+use Rattle.commands.specs.Io.Inputs.{value_as}
+use Rattle.commands.specs.Io.Plans.{says, octets_of}
+use Rattle.commands.proofs.OfIo.Plans.{IsRun-value}
 use Rattle.capture_text.specs.Captures.{capture_in}
 use Rattle.tase_verify.specs.Verifying.{verdict_for}
-use Rattle.command_words.specs.Words.{question_seen}
+use Rattle.commands.specs.Words.Words.{question_seen}
 use Rattle.tase_tool.specs.Verifying.{input_asked, verdict_said}
 use Rattle.tase_tool.proofs.Verified.{verdict_fits}
 use Rattle.tase_tool.proofs.verifying.verify_link.Goals as goal

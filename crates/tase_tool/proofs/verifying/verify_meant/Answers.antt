@@ -1,9 +1,9 @@
 use Rattle.std.proofs.Common.{codes, [], ◌∷◌}
-use Rattle.command_io.specs.declared.input.TheConstants.{TEXT_LIMIT}
-use Rattle.command_io.specs.Inputs.{value_as}
-use Rattle.command_io.proofs.Plans.{IsRun-value}
+use Rattle.commands.specs.declared.io.input.TheConstants.{TEXT_LIMIT}
+use Rattle.commands.specs.Io.Inputs.{value_as}
+use Rattle.commands.proofs.OfIo.Plans.{IsRun-value}
 use Rattle.tase_verify.specs.LinkText.{given_in}
-use Rattle.command_words.specs.Words.{question_seen}
+use Rattle.commands.specs.Words.Words.{question_seen}
 use Rattle.tase_tool.specs.Verifying.{input_asked, link_given, sent_plan}
 use Rattle.tase_tool.proofs.Verified.{sent_fits}
 use Rattle.tase_tool.proofs.verifying.verify_meant.Goals as goal

@@ -1,8 +1,8 @@
 use Rattle.std.proofs.Common.{◌≡◌, ℕ, List, Option, ap, sym, subst, ◌∙◌}
 use Rattle.std.specs.Prelude.{IfOk}
 use Rattle.sbo_device.specs.declared.key.Key.{Key}
-use Rattle.association_check.specs.declared.verdict.Verdict.{Verdict}
-use Rattle.association_check.specs.Verdicts.{verdict_of}
+use Rattle.tase_verify.specs.declared.association.verdict.Verdict.{Verdict}
+use Rattle.tase_verify.specs.Association.Verdicts.{verdict_of}
 use Rattle.tase_verify.specs.Verifying.{answered_for, verdict_for}
 use Rattle.tase_verify.proofs.verify.verify_association.Goals as goal
 

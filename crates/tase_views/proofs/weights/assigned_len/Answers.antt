@@ -1,6 +1,6 @@
 use Rattle.std.proofs.Common.{length, take, take_all, ap, ◌∙◌, arith}
 use Rattle.plain_text.specs.Lengths.{capped_len}
-use Rattle.mms_text.specs.Texts.{name_text, data_text}
+use Rattle.mms_data.specs.Text.Texts.{name_text, data_text}
 use Rattle.tase_views.specs.EventTexts.{assigned_text}
 use Rattle.tase_views.proofs.TextLengths.{length-assigned}
 use Rattle.tase_views.proofs.weights.assigned_len.Goals as goal

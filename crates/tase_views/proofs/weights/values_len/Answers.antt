@@ -1,7 +1,7 @@
 use Rattle.std.proofs.Common.{length, take_all, ap, ◌∙◌, arith}
 use Rattle.std.specs.List.{flat_map}
 use Rattle.plain_text.specs.Lengths.{capped_len}
-use Rattle.mms_text.specs.Texts.{data_text}
+use Rattle.mms_data.specs.Text.Texts.{data_text}
 use Rattle.tase_views.specs.EventTexts.{next_value}
 use Rattle.tase_views.proofs.TextLengths.{length-values}
 use Rattle.tase_views.proofs.weights.values_len.Goals as goal

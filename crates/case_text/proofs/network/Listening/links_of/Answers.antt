@@ -1,6 +1,6 @@
 use Rattle.std.proofs.Common.{Some, sym, subst}
-use Rattle.outside_links.specs.ScriptStates.{AllNewLinks}
-use Rattle.outside_links.proofs.NewLinks.{AllNewLinks-push}
+use Rattle.outside.specs.Links.ScriptStates.{AllNewLinks}
+use Rattle.outside.proofs.OfLinks.NewLinks.{AllNewLinks-push}
 use Rattle.case_text.proofs.network.Listening.links_of.Goals as goal
 
 pub loop-node-preserved : goal.loop-node-preserved

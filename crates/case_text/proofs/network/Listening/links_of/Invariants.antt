@@ -1,4 +1,4 @@
-use Rattle.outside_links.specs.ScriptStates.{AllNewLinks}
+use Rattle.outside.specs.Links.ScriptStates.{AllNewLinks}
 use Rattle.case_text.proofs.network.Listening.links_of.Given as goal
 
 -- the links so far are new

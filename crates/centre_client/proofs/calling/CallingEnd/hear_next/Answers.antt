@@ -1,7 +1,7 @@
 use Rattle.std.proofs.Common.{ℕ, List, ◌<◌, Result, Option, Ok}
 use Rattle.std.proofs.Common.{IfOk, OnSome, refl, sym, ap, subst, ◌∙◌}
 use Rattle.plain_text.specs.Extends.{Extends}
-use Rattle.stack_messages.specs.declared.fault.StackFault.{StackFault}
+use Rattle.stack_assoc.specs.declared.messages.fault.StackFault.{StackFault}
 use Rattle.stack_assoc.specs.declared.input.StackIn.{StackIn}
 use Rattle.stack_assoc.specs.Steps.{left_of}
 use Rattle.stack_assoc.specs.Courses.{IsNextAnswer, FollowsAnswer, fault_in}

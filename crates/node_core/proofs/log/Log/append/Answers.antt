@@ -1,7 +1,7 @@
 use Rattle.std.proofs.Common.{◌≡◌, ◌+◌, ◌∷◌, ◌++◌, [], Some, length, reverse, refl, sym, ap, ◌∙◌}
 use Rattle.std.proofs.lemmas.List.{length-reverse}
 use Rattle.tase_views.specs.declared.event.Entry.{Entry}
-use Rattle.journal_text.specs.Entries.{entry_in}
+use Rattle.texts.specs.Journal.Entries.{entry_in}
 use Rattle.node_core.specs.LogLines.{entries_of}
 use Rattle.node_core.specs.Room.{line_of}
 use Rattle.node_core.proofs.LogLines.{length-entries, entries-push, AreEntries-push}

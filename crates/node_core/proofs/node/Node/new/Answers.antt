@@ -3,7 +3,7 @@ use Rattle.std.specs.Arc.{arc_value}
 use Rattle.point_db.specs.Stored.{Keeps as KeepsPoints}
 use Rattle.bilateral.specs.declared.rows.Table.{Table}
 use Rattle.bilateral.specs.Rows.{CentreRows, IsCentre}
-use Rattle.node_devices.specs.DeviceBanks.{IsDeviceBank}
+use Rattle.node_core.specs.Devices.DeviceBanks.{IsDeviceBank}
 use Rattle.node_core.specs.LastValues.{kinds_of}
 use Rattle.node_core.specs.PeerParts.{new_part}
 use Rattle.node_core.specs.Stored.{IsNode, found_by}

@@ -10,8 +10,8 @@ use Rattle.sbo_device.specs.Banks.{DeviceRecord, device_at}
 use Rattle.tase_views.specs.OwnTables.{own_device}
 use Rattle.tase_views.specs.View.{own_key}
 use Rattle.tase_views.specs.Answers.{select_outcome, device_state}
-use Rattle.node_devices.specs.DevicesSeen.{IsDeviceSeen}
-use Rattle.node_devices.proofs.SeenAlike.{select_alike}
+use Rattle.node_core.specs.Devices.DevicesSeen.{IsDeviceSeen}
+use Rattle.node_core.proofs.OfDevices.SeenAlike.{select_alike}
 use Rattle.node_core.specs.Shown.{Shown}
 use Rattle.node_core.proofs.replies.PeerView.read_selection.Goals as goal
 

@@ -2,7 +2,7 @@ use Rattle.std.proofs.Common.{◌≡◌, rules, subst}
 use Rattle.std.specs.Arc.{arc_value}
 use Rattle.node_server.specs.NodeCalls.{NodeCall, CallsNode, AsksStop}
 use Rattle.node_server.proofs.Ticked.{stop-asked}
-use Rattle.server_run.specs.Gathering.{SharedNode}
+use Rattle.server_main.specs.Run.Gathering.{SharedNode}
 use Rattle.std.proofs.Common.{List}
 use Rattle.server_main.proofs.node_run.NodeRun.ask_stop.Goals as goal
 

@@ -1,9 +1,9 @@
 use Rattle.std.proofs.Common.{◌≡◌, rules, refl, ap, ◌∙◌}
 use Rattle.std.specs.Arc.{arc_value}
-use Rattle.outside_links.specs.Jobs.{SpawnerTold}
-use Rattle.node_turn.specs.Logged.{turn_log}
-use Rattle.server_run.specs.Accepting.{accepting}
-use Rattle.server_run.specs.Gathering.{SharedNode}
+use Rattle.outside.specs.Links.Jobs.{SpawnerTold}
+use Rattle.node_server.specs.Turn.Logged.{turn_log}
+use Rattle.server_main.specs.Run.Accepting.{accepting}
+use Rattle.server_main.specs.Run.Gathering.{SharedNode}
 use Rattle.server_main.specs.Working.{telling, inputs_told}
 use Rattle.server_main.proofs.GatheredJobs.{of-fed, of-ticked, of-own, feed-started, ticks-started}
 use Rattle.server_main.proofs.GatheredJobs.{left-jobs, left-rooms, left-out, left-faults}

@@ -1,10 +1,10 @@
 use Rattle.std.proofs.Common.{◌≡◌, Bool, rules, sym, ap, subst, ◌∙◌}
 use Rattle.std.specs.Arc.{arc_value}
 use Rattle.bilateral.specs.Rows.{CentreRows}
-use Rattle.node_turn.specs.declared.turn_node.NodeSetup.{NodeSetup}
-use Rattle.node_turn.specs.Logged.{turn_log}
-use Rattle.server_run.specs.Accepting.{accepting}
-use Rattle.server_run.specs.Rounds.{serving_state}
+use Rattle.node_server.specs.declared.turn.turn_node.NodeSetup.{NodeSetup}
+use Rattle.node_server.specs.Turn.Logged.{turn_log}
+use Rattle.server_main.specs.Run.Accepting.{accepting}
+use Rattle.server_main.specs.Run.Rounds.{serving_state}
 use Rattle.server_main.specs.declared.work_end.WorkEnd.{WorkEnd}
 use Rattle.server_main.specs.ServedParts.{is_plant_work, EndsBy}
 use Rattle.server_main.specs.Working.{telling, inputs_told, no_links}

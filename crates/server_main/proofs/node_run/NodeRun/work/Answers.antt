@@ -1,6 +1,6 @@
 use Rattle.std.specs.Arc.{arc_value}
-use Rattle.server_run.specs.Accepting.{accepting}
-use Rattle.server_run.specs.Rounds.{serving_state}
+use Rattle.server_main.specs.Run.Accepting.{accepting}
+use Rattle.server_main.specs.Run.Rounds.{serving_state}
 use Rattle.server_main.specs.Working.{telling, inputs_told}
 use Rattle.server_main.proofs.Pending.{serves-none}
 use Rattle.server_main.proofs.AtWork.{works-to-end}

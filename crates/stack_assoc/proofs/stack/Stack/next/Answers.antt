@@ -1,7 +1,7 @@
 use Rattle.std.proofs.Common.{◌≡◌, ◌++◌, OnSome, IfOk, ◌<◌, ◌∙◌, refl, sym, ap}
 use Rattle.std.proofs.Common.{Ok, Err}
 use Rattle.std.proofs.lemmas.Result.{err_from_is_err_and}
-use Rattle.stack_messages.specs.declared.fault.StackFault.{StackFault}
+use Rattle.stack_assoc.specs.declared.messages.fault.StackFault.{StackFault}
 use Rattle.stack_assoc.specs.Knowing.{expecting_by}
 use Rattle.stack_assoc.specs.Taking.{owed_octets}
 use Rattle.stack_assoc.specs.Courses.{Course, CourseStands, IsNextAnswer, is_offered, stack_state_of}

@@ -1,4 +1,4 @@
-use Rattle.tase_map.proofs.Sized.{concluded_few}
+use Rattle.tase_conn.proofs.OfMap.Sized.{concluded_few}
 use Rattle.tase_conn.proofs.conn.Conn.answer_conclude.Goals as goal
 
 pub say-requires-clause-few : goal.say-requires-clause-few

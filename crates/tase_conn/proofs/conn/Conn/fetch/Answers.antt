@@ -1,9 +1,9 @@
 use Rattle.std.proofs.Common.{◌≡◌, ◌∙◌, ℕ, List, sym, ap, Result, Option, Ok}
 use Rattle.std.proofs.lemmas.Result.{err_from_is_err_and}
-use Rattle.stack_messages.specs.declared.fault.StackFault.{StackFault}
+use Rattle.stack_assoc.specs.declared.messages.fault.StackFault.{StackFault}
 use Rattle.stack_assoc.specs.declared.input.StackIn.{StackIn}
 use Rattle.stack_assoc.specs.Arrivals.{called}
-use Rattle.tase_map.specs.Inputs.{text_given}
+use Rattle.tase_conn.specs.Map.Inputs.{text_given}
 use Rattle.tase_conn.specs.contracts.conn.Conn.{the_view}
 use Rattle.tase_conn.proofs.Fetched.{fetched_by, passes_fetched, lighter_fetched}
 use Rattle.tase_conn.proofs.Fetched.{stands_again}

@@ -1,5 +1,5 @@
 use Rattle.std.proofs.Common.{refl, sym, ◌∙◌}
-use Rattle.tase_map.specs.Inputs.{idle}
+use Rattle.tase_conn.specs.Map.Inputs.{idle}
 use Rattle.tase_conn.specs.contracts.conn.Conn.{the_view}
 use Rattle.tase_conn.proofs.Placing.{dropped, idle_view}
 use Rattle.tase_conn.proofs.conn.Conn.idle_in.Goals as goal

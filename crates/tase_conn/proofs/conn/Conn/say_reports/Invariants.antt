@@ -1,5 +1,5 @@
 use Rattle.std.proofs.Common.{◌≡◌, ◌++◌, drop, take, length}
-use Rattle.tase_map.specs.Out.{reports_said, first_too_long}
+use Rattle.tase_conn.specs.Map.Out.{reports_said, first_too_long}
 use Rattle.tase_conn.specs.Answering.{detail_at}
 use Rattle.tase_conn.proofs.conn.Conn.say_reports.Given as goal
 

@@ -1,6 +1,6 @@
 use Rattle.std.proofs.Common.{◌≡◌, false, true, sym, ◌∙◌}
 use Rattle.stack_assoc.specs.Arrivals.{called}
-use Rattle.tase_map.specs.Inputs.{piece, text_given}
+use Rattle.tase_conn.specs.Map.Inputs.{piece, text_given}
 use Rattle.tase_conn.specs.contracts.conn.Conn.{the_view}
 use Rattle.tase_conn.specs.Talking.{is_running}
 use Rattle.tase_conn.proofs.Placing.{dropped, taken_view}

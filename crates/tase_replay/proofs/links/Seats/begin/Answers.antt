@@ -1,6 +1,6 @@
 use Rattle.std.proofs.Common.{ap, length, subst, []}
 use Rattle.bilateral.specs.Rows.{CentreRows}
-use Rattle.tase_conn.specs.Places.{ConnStandsAt}
+use Rattle.conn_service.specs.TaseConn.Places.{ConnStandsAt}
 use Rattle.tase_replay.proofs.links.Seats.begin.Goals as goal
 
 pub returns : goal.returns

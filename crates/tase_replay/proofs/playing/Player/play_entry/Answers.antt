@@ -2,7 +2,7 @@ use Rattle.std.proofs.Common.{sym, subst, ap, ◌∙◌, Ok, Err, refl, inl}
 use Rattle.bilateral.specs.Rows.{CentreRows}
 use Rattle.tase_views.specs.History.{Past}
 use Rattle.tase_views.specs.Outcomes.{IsRightOutcome}
-use Rattle.node_core.specs.NodeState.{NodeState}
+use Rattle.conn_service.specs.NodeCore.NodeState.{NodeState}
 use Rattle.tase_replay.specs.Ends.{IsShown}
 use Rattle.tase_replay.specs.Play.{printed_of}
 use Rattle.tase_replay.proofs.Entering.{IsPlayed-taken, IsPlayed-refused, never_done}

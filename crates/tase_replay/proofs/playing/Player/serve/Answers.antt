@@ -1,5 +1,5 @@
 use Rattle.std.proofs.Common.{reverse, Some, refl, sym, ap, ◌∙◌, inl}
-use Rattle.node_core.specs.NodeState.{NodeState}
+use Rattle.conn_service.specs.NodeCore.NodeState.{NodeState}
 use Rattle.tase_replay.specs.declared.playing.ReplayEnd.{ReplayEnd}
 use Rattle.tase_replay.specs.Links.{given_seen, item_seen}
 use Rattle.tase_replay.specs.Play.{received, scene_by}

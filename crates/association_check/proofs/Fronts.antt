@@ -1,7 +1,0 @@
--- Octets that begin alike.
-use Rattle.std.proofs.Common.{◌≡◌, ℕ, List, [], ◌∷◌, refl}
-use Rattle.association_check.specs.Verdicts.{common}
-
-pub common_none : (got : List ℕ) → common got [] ≡ 0
-common_none [] = refl
-common_none (octet ∷ got) = refl

@@ -1,8 +1,0 @@
--- What is left has the same first offer.
-use Rattle.std.proofs.Common.{◌≡◌, drop}
-use Rattle.association_check.specs.Hearing as hearing
-use Rattle.association_check.proofs.hearing.offered_in.Given as goal
-
-abbrev pub invariant-loop-input : goal.invariant-loop-input
-invariant-loop-input l =
-    hearing.offered_in (drop l.input-index l.inputs) ≡ hearing.offered_in l.inputs

@@ -1,6 +1,0 @@
-use Rattle.association_check.proofs.Exactly.{equal_exactly}
-use Rattle.association_check.proofs.laws.equal_is_exact.Goals as goal
-
-pub returns : goal.returns
-returns c = λ rows past key octets ended sent entered asked.
-    equal_exactly rows past key octets ended sent entered asked

@@ -1,9 +1,0 @@
--- What was said, and what is to come.
-use Rattle.std.proofs.Common.{◌≡◌, ◌++◌, drop}
-use Rattle.tase_map.specs.Out.{reports_said}
-use Rattle.association_check.proofs.saying.Terms.reports.Given as goal
-
-abbrev pub invariant-loop-report : goal.invariant-loop-report
-invariant-loop-report l =
-    l.out.items ++ reports_said l.self.stack.setup l.self.detail (drop l.report-index l.reports)
-    ≡ l.initial.out.items ++ reports_said l.self.stack.setup l.self.detail l.reports

@@ -1,7 +1,0 @@
-use Rattle.association_check.proofs.Granting.{enough_granted}
-use Rattle.association_check.proofs.terms.granted_of.Goals as goal
-
-pub returns-clause-enough : goal.returns-clause-enough
-returns-clause-enough c =
-    enough_granted c.args.offer.now c.negotiate.result c.negotiate.ensures.refused
-    c.negotiate.ensures.granted

@@ -1,0 +1,185 @@
+-- What waits is sent and written.
+use Rattle.std.proofs.Common.{◌≡◌, ℕ, Bool, true, false, List, [], ◌++◌, ◌⊎◌, inl, inr, take, drop}
+use Rattle.std.proofs.Common.{Option, Some, sym, ap, subst, ◌∙◌, append_assoc}
+use Rattle.std.proofs.lemmas.List.{append-nil, take-append-drop}
+use Rattle.outside.specs.Sink.{SinkTold, AppendsAll, AppendsPart}
+use Rattle.outside.proofs.Writing.{Appends-append}
+use Rattle.outside.specs.Links.LinkAnswers.{LinkAnswer, LinkAnswers}
+use Rattle.outside.specs.Links.Links.{LinkTold}
+use Rattle.node_server.specs.Links.LinkUses.{HasHeard, UsesLink}
+use Rattle.node_server.proofs.OfLinks.Uses.{uses_then, heard_then}
+use Rattle.centre_client.specs.declared.end.ClientEnd.{ClientEnd}
+use Rattle.centre_client.specs.declared.end.ClientEnd.TheVariants as ends
+use Rattle.centre_client.specs.Clients.{client_of}
+use Rattle.centre_client.specs.Callers.{Caller, ClientStands}
+use Rattle.centre_client.specs.declared.service.sending.Sent.{Sent}
+use Rattle.centre_client.specs.declared.service.sending.Sent.TheVariants.{All, Front, Failed}
+use Rattle.centre_client.specs.declared.service.run_end.RunEnd.TheVariants.{Ended, LinkFault, SinkFault}
+use Rattle.centre_client.specs.declared.service.talking.Talk.{Talk}
+use Rattle.centre_client.specs.Service.LinkOctets.{octets_given}
+use Rattle.centre_client.specs.Service.Sends.{SendsOut, IsLastRefused, IsLeftBySend, is_send_fault}
+use Rattle.centre_client.specs.Service.Runs.{MayBeUnsaid, MayBeUnshown, IsClientEnd, owes_client}
+use Rattle.centre_client.specs.Service.Playing.{RunStart, PlaysSoFar, IsFlushed, EndsOver}
+use Rattle.centre_client.proofs.OfService.EndsHeard.{no_memory}
+
+-- ---- what is owed at the end
+
+pub said_owed : (owed : Bool) (unsaid : List ℕ) (link : LinkTold)
+    → (unsaid ≡ []) ⊎ IsLastRefused link → MayBeUnsaid owed unsaid link
+said_owed true unsaid link s = s
+said_owed false unsaid link s = tt
+
+pub shown_owed : (owed : Bool) (unshown : List ℕ) → unshown ≡ [] → MayBeUnshown owed unshown
+shown_owed true unshown e = e
+shown_owed false unshown e = tt
+
+pub client_ended : (end : ClientEnd) (by : Option ClientEnd) (given : List LinkAnswer)
+    → by ≡ Some end → IsClientEnd end by given
+client_ended ends.Finished by given e = inl e
+client_ended ends.PeerEnd by given e = inl e
+client_ended (ends.Refused fault) by given e = inl e
+client_ended ends.Rejected by given e = inl e
+client_ended (ends.Checkback want got) by given e = inl e
+client_ended (ends.Stray invoke) by given e = inl e
+client_ended ends.Memory by given e = tt
+
+same_end : (end : ClientEnd) → Ended end ≡ Ended ends.Memory → end ≡ ends.Memory
+same_end end e = cc
+
+pub refused_first : {A B : Type 0} (unsaid : List ℕ) → (unsaid ≡ []) ⊎ (A × B)
+    → (unsaid ≡ []) ⊎ A
+refused_first unsaid (inl e) = inl e
+refused_first unsaid (inr p) = inr p.0
+
+-- a client that has ended, when what it said and showed last is out
+pub ends_flushed : (start : RunStart) (link : LinkTold) (sink : SinkTold) (talk : Talk)
+    (end : ClientEnd) → IsFlushed start link sink talk → talk.client.calling.end ≡ Some end
+    → EndsOver start link sink (Ended end)
+ends_flushed start link sink talk end f e =
+    let so : PlaysSoFar start link sink talk = f.so_far in record {
+      now = so.now;
+      given = so.given;
+      taken = so.taken;
+      lines = so.lines;
+      uses = so.uses;
+      appends = so.appends;
+      timely = so.timely;
+      unsaid = talk.out.items;
+      said = so.said;
+      all_said = said_owed (owes_client end) talk.out.items link
+          (refused_first talk.out.items f.sent);
+      unshown = talk.shown.items;
+      shown = so.shown;
+      all_shown = shown_owed (owes_client end) talk.shown.items f.written;
+      is = client_ended end
+          (client_of start.rows start.script (octets_given so.given)).state.end so.given
+          (sym so.stands.end ∙ e);
+      memory = λ wanting. absurd (no_memory start.rows start.script (octets_given so.given)
+          (sym so.stands.end ∙ e ∙ ap (λ (x : ClientEnd). Some x) (same_end end wanting)));
+    }
+
+-- ---- what was sent and written
+
+left_by : (sent : Sent) (link : LinkTold) (now : LinkAnswers) (out : List ℕ)
+    → is_send_fault sent ≡ false → IsLeftBySend sent link now out
+    → (out ≡ []) ⊎ (IsLastRefused link × (now.after_nothing ≡ true))
+left_by All link now out e left = inl left
+left_by Front link now out e left = inr left
+left_by Failed link now out e left = absurd cc
+
+module _ (start : RunStart) (link : LinkTold) (sink : SinkTold) (old : Talk)
+    (so : PlaysSoFar start link sink old) where
+  pub heard_now : HasHeard link so.now
+  heard_now = heard_then start.link link start.heard so.now so.given so.taken false so.uses
+
+  module _ (after : LinkTold) (sent : Sent) (out : List ℕ)
+      (s : SendsOut link after so.now old.out.items out sent) where
+    uses_sent : (fault : Bool) → is_send_fault sent ≡ fault
+        → UsesLink start.link after start.heard s.now so.given (so.taken ++ s.taken) fault
+    uses_sent fault e =
+        subst (λ (b : Bool).
+        UsesLink start.link after start.heard s.now so.given (so.taken ++ s.taken) b) e
+        (subst (λ (l : List LinkAnswer).
+        UsesLink start.link after start.heard s.now l (so.taken ++ s.taken) (is_send_fault sent))
+        (append-nil so.given)
+        (uses_then start.link link after start.heard so.now s.now so.given [] so.taken s.taken
+        (is_send_fault sent) so.uses s.uses))
+
+    said_sent : (client_of start.rows start.script (octets_given so.given)).said
+        ≡ (so.taken ++ s.taken) ++ out
+    said_sent = so.said ∙ ap (λ (l : List ℕ). so.taken ++ l) s.waited
+        ∙ sym (append_assoc so.taken s.taken out)
+
+    -- the link has failed
+    pub link_failed : is_send_fault sent ≡ true → EndsOver start after sink LinkFault
+    link_failed e = record {
+      now = s.now;
+      given = so.given;
+      taken = so.taken ++ s.taken;
+      lines = so.lines;
+      uses = uses_sent true e;
+      appends = so.appends;
+      timely = so.timely;
+      unsaid = out;
+      said = said_sent;
+      all_said = tt;
+      unshown = old.shown.items;
+      shown = so.shown;
+      all_shown = tt;
+      is = tt;
+      memory = λ e. absurd cc;
+    }
+
+    -- the sink has failed
+    pub sink_failed : (filled : SinkTold) → is_send_fault sent ≡ false
+        → AppendsPart sink filled old.shown.items true → EndsOver start after filled SinkFault
+    sink_failed filled e p =
+        let lines : List ℕ = old.shown.items in record {
+          now = s.now;
+          given = so.given;
+          taken = so.taken ++ s.taken;
+          lines = so.lines ++ take p.0 lines;
+          uses = uses_sent false e;
+          appends = Appends-append start.sink sink filled so.lines (take p.0 lines) true so.appends
+              p.1;
+          timely = so.timely;
+          unsaid = out;
+          said = said_sent;
+          all_said = tt;
+          unshown = drop p.0 lines;
+          shown = so.shown
+              ∙ ap (λ (l : List ℕ). so.lines ++ l) (sym (take-append-drop p.0 lines))
+              ∙ sym (append_assoc so.lines (take p.0 lines) (drop p.0 lines));
+          all_shown = tt;
+          is = tt;
+          memory = λ e. absurd cc;
+        }
+
+    -- neither has failed
+    pub flushed : (filled : SinkTold) (new : Talk) → is_send_fault sent ≡ false
+        → AppendsAll sink filled old.shown.items → new.client ≡ old.client
+        → new.out.items ≡ out → new.shown.items ≡ [] → IsFlushed start after filled new
+    flushed filled new e appends client out_is shown_is = record {
+      so_far = record {
+        now = s.now;
+        given = so.given;
+        taken = so.taken ++ s.taken;
+        lines = so.lines ++ old.shown.items;
+        uses = uses_sent false e;
+        appends = Appends-append start.sink sink filled so.lines old.shown.items false so.appends
+            appends;
+        timely = so.timely;
+        goes = so.goes;
+        rows_are = ap (λ (c : Caller). c.rows) client ∙ so.rows_are;
+        stands = subst (λ (c : Caller).
+            ClientStands start.rows start.script (octets_given so.given) c.calling) (sym client)
+            so.stands;
+        said = said_sent ∙ ap (λ (l : List ℕ). (so.taken ++ s.taken) ++ l) (sym out_is);
+        shown = so.shown ∙ sym (append-nil (so.lines ++ old.shown.items))
+            ∙ ap (λ (l : List ℕ). (so.lines ++ old.shown.items) ++ l) (sym shown_is);
+      };
+      sent = subst (λ (l : List ℕ). (l ≡ [])
+          ⊎ (IsLastRefused after × (s.now.after_nothing ≡ true))) (sym out_is)
+          (left_by sent after s.now out e s.left);
+      written = shown_is;
+    }

@@ -1,0 +1,13 @@
+use Rattle.centre_client.proofs.service.running.hear.Goals as goal
+
+pub returns-in-Ok-None : goal.returns-in-Ok-None
+returns-in-Ok-None c = (
+  record { rows_are = c.in-Ok-None.ensures.rows; takes = c.in-Ok-None.ensures.ok },
+  cc (c.in-Ok-None.ensures.end, c.in-Ok-None.field-0-is),
+)
+
+pub returns-in-Ok-Some : goal.returns-in-Ok-Some
+returns-in-Ok-Some c = (
+  record { rows_are = c.in-Ok-Some.ensures.rows; takes = c.in-Ok-Some.ensures.ok },
+  cc (c.in-Ok-Some.ensures.end, c.in-Ok-Some.field-0-is),
+)

@@ -1,0 +1,10 @@
+//! A client over a link: what it says is sent, what it shows goes to a sink.
+
+mod run_end;
+mod running;
+mod sending;
+mod talking;
+
+pub use run_end::RunEnd;
+pub use running::run_client;
+pub use talking::Talk;

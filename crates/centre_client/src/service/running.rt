@@ -1,0 +1,162 @@
+//! A client, run over a link and a sink.
+ghost use Rattle.std.specs.Prelude.{◌≡◌, ℕ, ◌<◌, ◌≤◌, List, length, Some, None};
+ghost use Rattle.outside.specs.Sink.{SinkTold};
+ghost use Rattle.outside.specs.Links.LinkAnswers.{LinkAnswers};
+ghost use Rattle.node_server.specs.Links.LinkUses.{HasHeard};
+ghost use Rattle.bilateral.specs.Rows.{CentreRows};
+ghost use Rattle.centre_client.specs.Service.Sends.{is_send_fault};
+ghost use Rattle.centre_client.specs.Service.Talks.{IsTalk};
+ghost use Rattle.centre_client.specs.Service.Runs.{PlaysText};
+ghost use Rattle.centre_client.specs.Service.Playing.{RunStart, PlaysSoFar, IsFlushed, EndsOver};
+ghost use Rattle.centre_client.specs.Service.Playing.{FlushedBy, TakenBy, PlayedBy, HearsPiece};
+
+use crate::ClientEnd;
+use crate::service::run_end::RunEnd;
+use crate::service::sending::{Sent, send_out};
+use crate::service::talking::Talk;
+use outside::links::{Link, Recv};
+use outside::{Sink, write_all};
+use std::alloc::AllocError;
+use std::sync::Wait;
+
+/// So many octets are received at a time, at most.
+const PIECE: usize = 16_384;
+
+/// Runs a client over a link, turn by turn: what it says is sent, what it shows is written, and
+/// then the link is asked for more. It closes nothing.
+pub fn run_client<R: Wait, L: Link, K: Sink>(
+    rt: &R,
+    talk: &mut Talk,
+    link: &mut L,
+    sink: &mut K,
+) -> RunEnd
+    ensures { (rows : CentreRows) (text : List ℕ) (first : LinkAnswers)
+        → IsTalk rows text talk.old → HasHeard (L.told link.old) first
+        → PlaysText rows text (L.told link.old) (L.told link.new) first
+        (K.told sink.old) (K.told sink.new) result }
+{
+    let mut room = [0u8; PIECE];
+    play_on(rt, talk, &mut room, link, sink)
+}
+
+/// Plays on, turn by turn, to the end.
+fn play_on<R: Wait, L: Link, K: Sink>(
+    rt: &R,
+    talk: &mut Talk,
+    room: &mut [u8],
+    link: &mut L,
+    sink: &mut K,
+) -> RunEnd
+    requires room { 0 < length room.old }
+    requires few { length room.old ≤ PIECE }
+    ensures { (start : RunStart) → PlaysSoFar start (L.told link.old) (K.told sink.old) talk.old
+        → talk.old.client.calling.end ≡ None
+        → EndsOver start (L.told link.new) (K.told sink.new) result }
+{
+    for _ in rt.forever() {
+        if let Some(end) = play_once(talk, room, link, sink) {
+            return end;
+        }
+    }
+    unreachable!()
+}
+
+/// One turn. None where it goes on.
+fn play_once<L: Link, K: Sink>(
+    talk: &mut Talk,
+    room: &mut [u8],
+    link: &mut L,
+    sink: &mut K,
+) -> Option<RunEnd>
+    requires room { 0 < length room.old }
+    requires few { length room.old ≤ PIECE }
+    ensures { (start : RunStart) → PlaysSoFar start (L.told link.old) (K.told sink.old) talk.old
+        → talk.old.client.calling.end ≡ None
+        → PlayedBy result start (L.told link.new) (K.told sink.new) talk.new }
+{
+    match flush(talk, link, sink) {
+        Some(end) => Some(end),
+        None => match receive(talk, room, link) {
+            Intake::GoesOn => None,
+            Intake::Ends(end) => Some(leave(talk, link, sink, end)),
+            Intake::Fails(end) => Some(end),
+        },
+    }
+}
+
+/// Sends and writes what waits, and ends so.
+fn leave<L: Link, K: Sink>(talk: &mut Talk, link: &mut L, sink: &mut K, end: ClientEnd) -> RunEnd
+    ensures { (start : RunStart) → PlaysSoFar start (L.told link.old) (K.told sink.old) talk.old
+        → talk.old.client.calling.end ≡ Some end
+        → EndsOver start (L.told link.new) (K.told sink.new) result }
+{
+    match flush(talk, link, sink) {
+        Some(fault) => fault,
+        None => RunEnd::Ended(end),
+    }
+}
+
+/// Sends what waits, and writes what is shown. None where neither has failed.
+fn flush<L: Link, K: Sink>(talk: &mut Talk, link: &mut L, sink: &mut K) -> Option<RunEnd>
+    ensures flushes { (start : RunStart)
+        → PlaysSoFar start (L.told link.old) (K.told sink.old) talk.old
+        → FlushedBy result start (L.told link.new) (K.told sink.new) talk.new }
+    ensures client { talk.new.client ≡ talk.old.client }
+{
+    let sent = send_out(link, &mut talk.out);
+    if has_failed(sent) {
+        return Some(RunEnd::LinkFault);
+    }
+    match write_all(sink, talk.shown.as_slice()) {
+        Ok(()) => {
+            talk.shown.truncate(0);
+            None
+        }
+        Err(_) => Some(RunEnd::SinkFault),
+    }
+}
+
+/// Whether a send has failed.
+fn has_failed(sent: Sent) -> bool
+    ensures { result ≡ is_send_fault sent }
+{
+    matches!(sent, Sent::Failed)
+}
+
+/// What a turn of recv came to.
+enum Intake {
+    /// The client goes on.
+    GoesOn,
+    /// The client has ended so, and what it said and showed last waits.
+    Ends(ClientEnd),
+    /// The run has ended so.
+    Fails(RunEnd),
+}
+
+/// Receives once, and hears what came.
+fn receive<L: Link>(talk: &mut Talk, room: &mut [u8], link: &mut L) -> Intake
+    requires room { 0 < length room.old }
+    requires few { length room.old ≤ PIECE }
+    ensures { (start : RunStart) (sink : SinkTold)
+        → IsFlushed start (L.told link.old) sink talk.old → talk.old.client.calling.end ≡ None
+        → TakenBy result start (L.told link.new) sink talk.new }
+{
+    match link.recv(room) {
+        Recv::Got(count) => hear(talk, &room[..count]),
+        Recv::Idle => Intake::GoesOn,
+        Recv::End => Intake::Fails(RunEnd::Ended(talk.client.peer_end())),
+        Recv::Failed => Intake::Fails(RunEnd::LinkFault),
+    }
+}
+
+/// Hears a piece.
+fn hear(talk: &mut Talk, piece: &[u8]) -> Intake
+    requires { length piece.now ≤ PIECE }
+    ensures { HearsPiece result piece.now talk.old talk.new }
+{
+    match talk.client.turn(piece, &mut talk.out, &mut talk.shown) {
+        Ok(None) => Intake::GoesOn,
+        Ok(Some(end)) => Intake::Ends(end),
+        Err(AllocError) => Intake::Fails(RunEnd::Ended(ClientEnd::Memory)),
+    }
+}

@@ -1,8 +1,0 @@
-//! The command `client`: a client over the link to another node that its words name.
-#![tactic(auto)]
-
-mod ending;
-mod opening;
-mod playing;
-
-pub use playing::run_client_command;

@@ -1,5 +1,0 @@
-use Rattle.std.proofs.Common.{length}
-use Rattle.command_words.proofs.grammar.+serve_options.Given as goal
-
-abbrev pub decreases-serve_options : goal.decreases-serve_options
-decreases-serve_options l = length l.words.now

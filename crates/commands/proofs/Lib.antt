@@ -1,0 +1,4 @@
+pub mod OfIo
+pub mod OfWords
+pub mod OfLoad
+pub mod OfFiles

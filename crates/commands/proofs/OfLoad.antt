@@ -1,0 +1,4 @@
+pub mod Growing
+pub mod Counted
+pub mod SoFar
+mod Worked

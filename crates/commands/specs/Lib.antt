@@ -1,0 +1,4 @@
+pub mod Io
+pub mod Words
+pub mod Load
+pub mod Files

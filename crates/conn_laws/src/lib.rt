@@ -1,7 +1,0 @@
-//! The whole course of a connection over the history of a node: which events its seat has, and
-//! which octets its peer is sent.
-#![tactic(auto)]
-
-mod laws;
-
-pub use laws::{connections_leave, connections_serve};

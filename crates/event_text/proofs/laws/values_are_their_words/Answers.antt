@@ -1,8 +1,0 @@
-use Rattle.event_text.proofs.ValueWords.{value-found, value-read}
-use Rattle.event_text.proofs.laws.values_are_their_words.Goals as goal
-
-pub returns : goal.returns
-returns c = λ body flags seconds millis value. (
-  λ e. value-found body flags seconds millis value e,
-  λ w. value-read body flags seconds millis value w,
-)

@@ -1,7 +1,0 @@
-use Rattle.std.proofs.Common.{◌≡◌, ◌++◌, flat_map, take}
-use Rattle.event_text.specs.ReplyTexts.{result_text}
-use Rattle.event_text.proofs.writing.replies.put_results.Given as goal
-
-abbrev pub invariant-loop-outcome : goal.invariant-loop-outcome
-invariant-loop-outcome l =
-    l.out.items ≡ l.initial.out.items ++ flat_map result_text (take l.outcome-index l.outcomes)

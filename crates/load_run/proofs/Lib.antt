@@ -1,4 +1,0 @@
-mod Growing
-mod Counted
-mod SoFar
-mod Worked

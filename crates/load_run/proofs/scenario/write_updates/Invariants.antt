@@ -1,8 +1,0 @@
-use Rattle.std.proofs.Common.{◌≡◌, ◌++◌}
-use Rattle.load_run.specs.Generated.{each_below}
-use Rattle.load_run.specs.Generated as own
-use Rattle.load_run.proofs.scenario.write_updates.Given as goal
-
-abbrev pub invariant-loop-place : goal.invariant-loop-place
-invariant-loop-place l =
-    l.out.items ≡ l.initial.out.items ++ each_below (own.load_update l.before) l.place

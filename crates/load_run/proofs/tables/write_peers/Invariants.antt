@@ -1,7 +1,0 @@
-use Rattle.std.proofs.Common.{◌≡◌, ◌++◌}
-use Rattle.load_run.specs.Generated.{each_below}
-use Rattle.load_run.specs.Generated as own
-use Rattle.load_run.proofs.tables.write_peers.Given as goal
-
-abbrev pub invariant-loop-peer : goal.invariant-loop-peer
-invariant-loop-peer l = l.out.items ≡ l.initial.out.items ++ each_below own.load_peer l.peer

@@ -1,6 +1,0 @@
-use Rattle.std.proofs.Common.{◌≡◌, ◌%◌, ◌^◌, take}
-use Rattle.std.specs.List.{sum}
-use Rattle.load_run.proofs.tally.sum_of.Given as goal
-
-abbrev pub invariant-loop-octet : goal.invariant-loop-octet
-invariant-loop-octet l = l.total ≡ sum (take l.octet-index l.text) % 2 ^ 32

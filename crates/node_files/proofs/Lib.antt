@@ -1,2 +1,0 @@
-mod Journals
-pub mod Handed

@@ -1,9 +1,0 @@
-use Rattle.std.proofs.Common.{take}
-use Rattle.outside.specs.Sink.{AppendsAll}
-use Rattle.journal_text.specs.Journals.{journal_text}
-use Rattle.node_files.proofs.journal.write_entries.Given as goal
-
-abbrev pub invariant-loop-place : goal.invariant-loop-place
-invariant-loop-place g l =
-    AppendsAll (g.K.Sink.told l.fn.sink) (g.K.Sink.told l.sink)
-    (journal_text (take l.place l.node.history))

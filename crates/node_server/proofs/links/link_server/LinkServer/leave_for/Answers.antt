@@ -1,0 +1,21 @@
+use Rattle.std.proofs.Common.{◌++◌}
+use Rattle.tase_conn.specs.Talking.{pending_of}
+use Rattle.node_server.proofs.OfLinks.Left.{left_for}
+use Rattle.node_server.proofs.links.link_server.LinkServer.leave_for.Goals as goal
+
+pub leave_seat-requires-clause-served : goal.leave_seat-requires-clause-served
+leave_seat-requires-clause-served g c =
+    let h = c.requires.leaves.2 in (h.acted, h.taken ++ pending_of c.args.conn.now, h.serves)
+
+pub leave_seat-requires-clause-running : goal.leave_seat-requires-clause-running
+leave_seat-requires-clause-running g c = c.requires.leaves.2.running
+
+pub leave_seat-requires-clause-end : goal.leave_seat-requires-clause-end
+leave_seat-requires-clause-end g c = c.requires.leaves.2.by_server
+
+pub returns-clause-left : goal.returns-clause-left
+returns-clause-left g c = λ start used h.
+    left_for c.args.self.now.shared.now.setup c.args.seat.now.number c.args.seat.now.front
+    c.leave_seat.new.seat.front start used c.args.conn.now c.leave_seat.new.conn
+    c.leave_seat.ensures.seen c.leave_seat.ensures.shuts c.args.end h
+    (c.leave_seat.ensures.left h.acted (h.taken ++ pending_of c.args.conn.now) h.serves)

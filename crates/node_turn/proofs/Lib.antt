@@ -1,2 +1,0 @@
-mod Paired
-pub mod Sent

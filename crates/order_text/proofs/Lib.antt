@@ -1,2 +1,0 @@
-mod PlainNames
-mod Lines

@@ -1,6 +1,0 @@
-//! The orders to a plant, as the lines by which it is told them.
-#![tactic(auto)]
-
-mod plant_line;
-
-pub use plant_line::write_orders;

@@ -1,2 +1,0 @@
-mod NameEntries
-pub mod Opening

@@ -1,4 +1,0 @@
-mod OrdersRefused
-mod Given
-mod Alone
-mod Told

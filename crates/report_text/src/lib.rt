@@ -1,8 +1,0 @@
-//! Texts of reports, written and read.
-#![tactic(auto)]
-
-mod reading;
-mod writing;
-
-pub use reading::read_report;
-pub use writing::spell_report;

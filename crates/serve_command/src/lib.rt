@@ -1,8 +1,0 @@
-//! The command `serve`: a server over the tables, the feed, the clock and the plant that its words
-//! and the outside name, and the journal of its node.
-#![tactic(auto)]
-
-mod opening;
-mod serving;
-
-pub use serving::run_serve;

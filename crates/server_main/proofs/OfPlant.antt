@@ -1,0 +1,4 @@
+pub mod OrdersRefused
+pub mod Given
+pub mod Alone
+pub mod Told

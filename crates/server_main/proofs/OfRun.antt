@@ -1,0 +1,9 @@
+pub mod Joined
+pub mod Came
+pub mod LinksDone
+pub mod Whole
+pub mod TakenBack
+pub mod Settled
+pub mod JobsBegun
+pub mod KeptServing
+pub mod RoundsOn

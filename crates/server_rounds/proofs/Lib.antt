@@ -1,7 +1,0 @@
-mod Counts
-mod Given
-mod Listened
-mod Seated
-mod Accepted
-mod Ordered
-mod Joined

@@ -1,6 +1,0 @@
-use Rattle.server_rounds.proofs.Joined.{rounds-done}
-use Rattle.server_rounds.proofs.laws.rounds_are_done.Goals as goal
-
-pub returns : goal.returns
-returns g c = λ node before after end of serves.
-    rounds-done node g.L.Link.told before after end of serves

@@ -1,6 +1,0 @@
-use Rattle.server_run.proofs.Whole.{all-claimed}
-use Rattle.server_run.proofs.laws.jobs_are_claimed.Goals as goal
-
-pub returns : goal.returns
-returns c = λ node own after feed ticks served of jobs.
-    all-claimed node own after feed ticks served of jobs

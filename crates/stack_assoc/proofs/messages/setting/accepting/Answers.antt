@@ -1,0 +1,15 @@
+use Rattle.std.proofs.Common.{◌∙◌, sym}
+use Rattle.stack_assoc.specs.declared.messages.fault.Layer.TheVariants as layers
+use Rattle.stack_assoc.specs.Messages.Layers.{out_of_order}
+use Rattle.stack_assoc.specs.Messages.Setting.{accepting, initiated_of}
+use Rattle.stack_assoc.proofs.OfMessages.Exact.{some-read, none-read}
+use Rattle.stack_assoc.proofs.messages.setting.accepting.Goals as goal
+
+pub returns-in-Some : goal.returns-in-Some
+returns-in-Some c = some-read (out_of_order layers.Mms) (accepting c.args.acse c.args.mms)
+    (initiated_of c.args.pdu) c.in-Some.initiate (sym c.initiated_of.ensures ∙ c.in-Some.is)
+
+pub returns-in-None : goal.returns-in-None
+returns-in-None c = none-read (out_of_order layers.Mms) c.out_of_order.result
+    (accepting c.args.acse c.args.mms) (initiated_of c.args.pdu)
+    (sym c.initiated_of.ensures ∙ c.in-None.is) c.out_of_order.ensures

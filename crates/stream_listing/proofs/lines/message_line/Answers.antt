@@ -1,5 +1,0 @@
-use Rattle.std.proofs.Common.{append_assoc, rules}
-use Rattle.stream_listing.proofs.lines.message_line.Goals as goal
-
-pub returns : goal.returns
-returns c = search (rules, append_assoc)

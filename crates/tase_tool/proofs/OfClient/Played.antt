@@ -1,0 +1,206 @@
+-- A client that was run over what was opened: a failure has its cause.
+use Rattle.std.proofs.Common.{◌≡◌, ◌⊎◌, ◌∙◌, ℕ, ◌<◌, true, List, refl, sym, ap, subst}
+use Rattle.std.proofs.Common.{inl, inr}
+use Rattle.outside.specs.Faults.{counted}
+use Rattle.outside.specs.Sink.{SinkTold}
+use Rattle.outside.specs.Links.LinkAnswers.{LinkAnswers}
+use Rattle.outside.specs.Links.Links.{LinkTold}
+use Rattle.outside.specs.Names.Outside.{OutsideTold}
+use Rattle.bilateral.specs.Rows.{CentreRows}
+use Rattle.centre_client.specs.declared.end.ClientEnd.{ClientEnd}
+use Rattle.centre_client.specs.declared.end.ClientEnd.TheVariants as ends
+use Rattle.centre_client.specs.declared.service.run_end.RunEnd.{RunEnd}
+use Rattle.centre_client.specs.declared.service.run_end.RunEnd.TheVariants as runs
+use Rattle.centre_client.specs.Service.Runs.{PlaysText}
+use Rattle.commands.specs.declared.io.status.Status.{Status}
+use Rattle.commands.specs.declared.io.status.Status.TheVariants.{Done, Usage, Outside, Memory, Peer}
+use Rattle.commands.specs.Io.OutsideUse.{Rises}
+use Rattle.commands.specs.Io.Saying.{prints}
+use Rattle.commands.specs.Io.Runs.{TellsSaid}
+use Rattle.commands.proofs.OfIo.Leaving.{Rises-after, Rises-before, Rises-positive}
+use Rattle.tase_tool.specs.Client.Ending.{TellsClientEnd, TellsPeer, TellsMade, TellsRunEnd}
+use Rattle.tase_tool.specs.Client.Playing.{PlaysOpened}
+use Rattle.tase_tool.proofs.OfClient.Faults.{counted_grows, faulty_rises, link_heard}
+
+-- the sink has failed in these writes
+peer_failed : (text : List ℕ) (before after : SinkTold) (status : Status)
+    → TellsPeer text before after status → status ≡ Outside
+    → after.faults ≡ counted true before.faults
+peer_failed text before after status tells is =
+    (subst (TellsSaid (prints Peer text) before after) is tells.0).1.faults
+
+made_failed : (text : List ℕ) (before after : SinkTold) (status : Status)
+    → TellsMade text before after status → status ≡ Outside
+    → after.faults ≡ counted true before.faults
+made_failed text before after status (inl tells) is = peer_failed text before after status tells is
+made_failed text before after status (inr lacks) is =
+    absurd (let e : Memory ≡ Outside = sym lacks.0 ∙ is in cc)
+
+client_failed : (end : ClientEnd) (before after : SinkTold) (status : Status)
+    → TellsClientEnd end before after status → status ≡ Outside
+    → after.faults ≡ counted true before.faults
+client_failed ends.Finished before after status tells is = absurd cc
+client_failed ends.PeerEnd before after status tells is = peer_failed _ before after status tells is
+client_failed (ends.Refused fault) before after status tells is =
+    made_failed _ before after status tells is
+client_failed ends.Rejected before after status tells is =
+    peer_failed _ before after status tells is
+client_failed (ends.Checkback want got) before after status tells is =
+    made_failed _ before after status tells is
+client_failed (ends.Stray invoke) before after status tells is =
+    made_failed _ before after status tells is
+client_failed ends.Memory before after status tells is = absurd cc
+
+-- ---- the names that it keeps
+
+peer_named : (text : List ℕ) (before after : SinkTold) (status : Status)
+    → TellsPeer text before after status → after.name ≡ before.name
+peer_named text before after status tells = elim tells.1 [
+  | inl told ↦ (subst (TellsSaid (prints Peer text) before after) told tells.0).1.name
+  | inr failed ↦ (subst (TellsSaid (prints Peer text) before after) failed tells.0).1.name
+]
+
+made_named : (text : List ℕ) (before after : SinkTold) (status : Status)
+    → TellsMade text before after status → after.name ≡ before.name
+made_named text before after status (inl tells) = peer_named text before after status tells
+made_named text before after status (inr lacks) = ap (λ (k : SinkTold). k.name) lacks.1
+
+client_named : (end : ClientEnd) (before after : SinkTold) (status : Status)
+    → TellsClientEnd end before after status → after.name ≡ before.name
+client_named ends.Finished before after status tells = ap (λ (k : SinkTold). k.name) tells.1
+client_named ends.PeerEnd before after status tells = peer_named _ before after status tells
+client_named (ends.Refused fault) before after status tells =
+    made_named _ before after status tells
+client_named ends.Rejected before after status tells = peer_named _ before after status tells
+client_named (ends.Checkback want got) before after status tells =
+    made_named _ before after status tells
+client_named (ends.Stray invoke) before after status tells =
+    made_named _ before after status tells
+client_named ends.Memory before after status tells = ap (λ (k : SinkTold). k.name) tells.1
+
+pub run_named : (end : RunEnd) (before after : SinkTold) (status : Status)
+    → TellsRunEnd end before after status → after.name ≡ before.name
+run_named (runs.Ended end) before after status tells = client_named end before after status tells
+run_named runs.LinkFault before after status tells = ap (λ (k : SinkTold). k.name) tells.1
+run_named runs.SinkFault before after status tells = ap (λ (k : SinkTold). k.name) tells.1
+
+-- ---- a failure
+
+module _ (rows : CentreRows) (text : List ℕ) (link : LinkTold) (sink : SinkTold)
+    (before after : OutsideTold) (status : Status)
+    (played : PlaysOpened rows text link sink before after status) where
+  -- the link or standard output has a fault when it is closed
+  abbrev pub IsFailed : Type 0
+  IsFailed = (0 < played.gone.faults) ⊎ (0 < played.told.faults)
+
+  faulty : (first now : ℕ) → now ≡ counted true first → 0 < now
+  faulty first now counts = Rises-positive first now (0, counts)
+
+  by_end : (end : RunEnd) (first : LinkAnswers)
+      → PlaysText rows text link played.gone first sink played.shown end
+      → TellsRunEnd end played.shown played.told status → status ≡ Outside → IsFailed
+  by_end (runs.Ended end) first plays tells is =
+      inr (faulty played.shown.faults played.told.faults
+      (client_failed end played.shown played.told status tells is))
+  by_end runs.LinkFault first plays tells is =
+      inl (faulty link.faults played.gone.faults plays.plays.uses.faults)
+  by_end runs.SinkFault first plays tells is =
+      inr (faulty sink.faults played.told.faults
+      (ap (λ (k : SinkTold). k.faults) tells.1 ∙ plays.plays.appends.faults))
+
+  pub played_failed : status ≡ Outside → IsFailed
+  played_failed is =
+      let first = link_heard link in
+      by_end played.end first.0 (played.plays first.0 first.1) played.tells is
+
+  pub gone_named : played.gone.name ≡ link.name
+  gone_named =
+      let first = link_heard link in (played.plays first.0 first.1).plays.uses.name
+
+  pub told_named : played.told.name ≡ sink.name
+  told_named =
+      let first = link_heard link in
+      run_named played.end played.shown played.told status played.tells
+      ∙ (played.plays first.0 first.1).plays.appends.name
+
+  -- then the count rises
+  pub played_rises : status ≡ Outside → Rises before.faults after.faults
+  played_rises is = elim (played_failed is) [
+    | inl link_faulty ↦ Rises-before before.faults played.mid.faults after.faults
+        (faulty_rises played.gone.faults before.faults played.mid.faults link_faulty
+        played.leaves.faults)
+        (counted_grows _ played.mid.faults after.faults played.closes.faults)
+    | inr sink_faulty ↦ Rises-after before.faults played.mid.faults after.faults
+        (counted_grows _ before.faults played.mid.faults played.leaves.faults)
+        (faulty_rises played.told.faults played.mid.faults after.faults sink_faulty
+        played.closes.faults)
+  ]
+
+peer_unasked : (text : List ℕ) (before after : SinkTold) (status : Status)
+    → TellsPeer text before after status → status ≡ Usage → ⊥
+peer_unasked text before after status tells is = elim tells.1 [
+  | inl told ↦ absurd (let e : Peer ≡ Usage = sym told ∙ is in cc)
+  | inr failed ↦ absurd (let e : Outside ≡ Usage = sym failed ∙ is in cc)
+]
+
+made_unasked : (text : List ℕ) (before after : SinkTold) (status : Status)
+    → TellsMade text before after status → status ≡ Usage → ⊥
+made_unasked text before after status (inl tells) is =
+    peer_unasked text before after status tells is
+made_unasked text before after status (inr lacks) is =
+    absurd (let e : Memory ≡ Usage = sym lacks.0 ∙ is in cc)
+
+client_unasked : (end : ClientEnd) (before after : SinkTold) (status : Status)
+    → TellsClientEnd end before after status → status ≡ Usage → ⊥
+client_unasked ends.Finished before after status tells is = absurd cc
+client_unasked ends.PeerEnd before after status tells is =
+    peer_unasked _ before after status tells is
+client_unasked (ends.Refused fault) before after status tells is =
+    made_unasked _ before after status tells is
+client_unasked ends.Rejected before after status tells is =
+    peer_unasked _ before after status tells is
+client_unasked (ends.Checkback want got) before after status tells is =
+    made_unasked _ before after status tells is
+client_unasked (ends.Stray invoke) before after status tells is =
+    made_unasked _ before after status tells is
+client_unasked ends.Memory before after status tells is = absurd cc
+
+pub run_unasked : (end : RunEnd) (before after : SinkTold) (status : Status)
+    → TellsRunEnd end before after status → status ≡ Usage → ⊥
+run_unasked (runs.Ended end) before after status tells is =
+    client_unasked end before after status tells is
+run_unasked runs.LinkFault before after status tells is = absurd cc
+run_unasked runs.SinkFault before after status tells is = absurd cc
+
+-- ---- done
+
+peer_undone : {A : Type 0} (text : List ℕ) (before after : SinkTold)
+    → TellsPeer text before after Done → A
+peer_undone {A} text before after tells = elim tells.1 [
+  | inl told ↦ absurd (let e : Done ≡ Peer = told in cc)
+  | inr failed ↦ absurd (let e : Done ≡ Outside = failed in cc)
+]
+
+made_undone : {A : Type 0} (text : List ℕ) (before after : SinkTold)
+    → TellsMade text before after Done → A
+made_undone {A} text before after (inl tells) = peer_undone text before after tells
+made_undone {A} text before after (inr lacks) =
+    absurd (let e : Done ≡ Memory = lacks.0 in cc)
+
+client_done : (end : ClientEnd) (before after : SinkTold) → TellsClientEnd end before after Done
+    → end ≡ ends.Finished
+client_done ends.Finished before after tells = refl
+client_done ends.PeerEnd before after tells = peer_undone _ before after tells
+client_done (ends.Refused fault) before after tells = made_undone _ before after tells
+client_done ends.Rejected before after tells = peer_undone _ before after tells
+client_done (ends.Checkback want got) before after tells = made_undone _ before after tells
+client_done (ends.Stray invoke) before after tells = made_undone _ before after tells
+client_done ends.Memory before after tells =
+    absurd (let e : Done ≡ Memory = tells.0 in cc)
+
+pub run_done : (end : RunEnd) (before after : SinkTold) → TellsRunEnd end before after Done
+    → end ≡ runs.Ended ends.Finished
+run_done (runs.Ended end) before after tells =
+    ap (λ (e : ClientEnd). runs.Ended e) (client_done end before after tells)
+run_done runs.LinkFault before after tells = absurd (let e : Done ≡ Outside = tells.0 in cc)
+run_done runs.SinkFault before after tells = absurd (let e : Done ≡ Outside = tells.0 in cc)

@@ -1,0 +1,70 @@
+-- How a client ended, as it is told behind what the client showed.
+use Rattle.std.specs.Prelude.{◌≡◌, ◌⊎◌, ℕ, List, [], ◌∷◌, ◌++◌, codes, decimal, ℤ}
+use Rattle.std.specs.Fmt.{signed_decimal}
+use Rattle.outside.specs.Sink.{SinkTold}
+use Rattle.stack_assoc.specs.declared.messages.fault.StackFault.{StackFault}
+use Rattle.stack_assoc.specs.Listing.Names.{layer_name, why_name}
+use Rattle.commands.specs.declared.io.status.Status.{Status}
+use Rattle.commands.specs.declared.io.status.Status.TheVariants as statuses
+use Rattle.commands.specs.Io.Saying.{prints}
+use Rattle.commands.specs.Io.Runs.{TellsSaid}
+use Rattle.centre_client.specs.declared.end.ClientEnd.{ClientEnd}
+use Rattle.centre_client.specs.declared.end.ClientEnd.TheVariants as ends
+use Rattle.centre_client.specs.declared.service.run_end.RunEnd.{RunEnd}
+use Rattle.centre_client.specs.declared.service.run_end.RunEnd.TheVariants as runs
+
+-- words behind a name, as a line
+abbrev pub named_line : List ℕ → List ℕ → List ℕ
+named_line name words = name ++ 32 ∷ [] ++ words ++ 10 ∷ []
+
+-- `LAYER PLACE WHY`
+abbrev pub fault_words : StackFault → List ℕ
+fault_words f = layer_name f.layer ++ 32 ∷ [] ++ decimal f.place ++ 32 ∷ [] ++ why_name f.why
+
+-- `peer refused LAYER PLACE WHY`
+abbrev pub refused_line : StackFault → List ℕ
+refused_line fault = named_line (codes "peer refused") (fault_words fault)
+
+-- `WANT GOT`
+abbrev pub number_words : ℤ → ℤ → List ℕ
+number_words want got = signed_decimal want ++ 32 ∷ [] ++ signed_decimal got
+
+-- `checkback WANT GOT`
+abbrev pub checkback_line : ℤ → ℤ → List ℕ
+checkback_line want got = named_line (codes "checkback") (number_words want got)
+
+-- `stray INVOKE`
+abbrev pub stray_invoke_line : ℕ → List ℕ
+stray_invoke_line invoke = codes "stray " ++ decimal invoke ++ 10 ∷ []
+
+-- a line on how a client ended by what its peer gave, whether memory is left or not
+abbrev pub TellsPeer : List ℕ → SinkTold → SinkTold → Status → Type 0
+TellsPeer text before after status =
+    TellsSaid (prints statuses.Peer text) before after status
+    × ((status ≡ statuses.Peer) ⊎ (status ≡ statuses.Outside))
+
+-- the same of a line that is made in memory first; where that is wanting nothing is told
+abbrev pub TellsMade : List ℕ → SinkTold → SinkTold → Status → Type 0
+TellsMade text before after status = TellsPeer text before after status
+    ⊎ ((status ≡ statuses.Memory) × (after ≡ before))
+
+-- nothing is told where a client has played its script to its end, nor where memory ran out
+abbrev pub TellsClientEnd : ClientEnd → SinkTold → SinkTold → Status → Type 0
+TellsClientEnd ends.Finished before after status = (status ≡ statuses.Done) × (after ≡ before)
+TellsClientEnd ends.PeerEnd before after status =
+    TellsPeer (codes "peer end" ++ 10 ∷ []) before after status
+TellsClientEnd (ends.Refused fault) before after status =
+    TellsMade (refused_line fault) before after status
+TellsClientEnd ends.Rejected before after status =
+    TellsPeer (codes "peer rejected" ++ 10 ∷ []) before after status
+TellsClientEnd (ends.Checkback want got) before after status =
+    TellsMade (checkback_line want got) before after status
+TellsClientEnd (ends.Stray invoke) before after status =
+    TellsMade (stray_invoke_line invoke) before after status
+TellsClientEnd ends.Memory before after status = (status ≡ statuses.Memory) × (after ≡ before)
+
+-- nor where its link or its sink has failed
+abbrev pub TellsRunEnd : RunEnd → SinkTold → SinkTold → Status → Type 0
+TellsRunEnd (runs.Ended end) before after status = TellsClientEnd end before after status
+TellsRunEnd runs.LinkFault before after status = (status ≡ statuses.Outside) × (after ≡ before)
+TellsRunEnd runs.SinkFault before after status = (status ≡ statuses.Outside) × (after ≡ before)

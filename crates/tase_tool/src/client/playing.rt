@@ -1,0 +1,145 @@
+//! The command `client`.
+ghost use Rattle.std.specs.Prelude.{List, ℕ, Ok};
+ghost use Rattle.std.specs.Arc.{arc_value};
+ghost use Rattle.bilateral.specs.Rows.{CentreRows};
+ghost use Rattle.centre_client.specs.Service.Talks.{IsTalk};
+ghost use Rattle.commands.specs.Words.Words.{client_seen};
+ghost use Rattle.tase_tool.specs.Client.Playing.{ClientCommand, GoesBehindTables, GoesBehindScript};
+ghost use Rattle.tase_tool.specs.Client.Playing.{PlaysScript, MeetsNode, PlaysOpened};
+
+use crate::client::ending::tell_run_end;
+use crate::client::opening::{close_link, open_both};
+use bilateral::Centre;
+use centre_client::service::{Talk, run_client};
+use commands::files::read_tables;
+use commands::io::{InputEnd, Refusal, Status, TEXT_LIMIT, end_unread, read_input, refuse};
+use commands::words::ClientWords;
+use outside::names::Outside;
+use std::alloc::{AllocError, Global};
+use std::sync::{Arc, Wait};
+
+/// Plays a client, as these words say: `client TABLES SCRIPT --connect ADDRESS`. It reads the
+/// tables and the script, connects to the node at the address, says what the script says, and
+/// prints what the client shows, as lines `reply` and `report`. Then it closes the link, and behind
+/// these lines it prints how the client ended, where its script wasn't played to its end.
+///
+/// It answers 0 only where the script was played to its end and the release answered; 3 where the
+/// tables or the script have a bad line, which is printed, and then it has connected to nobody; 4
+/// only where a fault outside was counted; 7 where memory ran out; 8 where the client ended by what
+/// its peer gave, which is printed. It waits as long as the peer says nothing.
+pub fn run_client_command<R: Wait, O: Outside>(
+    rt: &R,
+    alloc: Global,
+    words: ClientWords<'_>,
+    outside: &mut O,
+) -> Status
+    ensures { ClientCommand (client_seen words.entry) (O.told outside.old) (O.told outside.new)
+        result }
+{
+    let read = read_tables(alloc, outside, words.tables);
+    let command = ClientRun { rt, alloc, words };
+    command.play_read(outside, read)
+}
+
+/// A client's command.
+#[derive(Drop)]
+struct ClientRun<'a, R> {
+    rt: &'a R,
+    alloc: Global,
+    words: ClientWords<'a>,
+}
+
+impl<'a, R: Wait> ClientRun<'a, R> {
+    /// Plays over tables that were read to this.
+    fn play_read<O: Outside>(&self, outside: &mut O, read: Result<Centre, InputEnd>) -> Status
+        ensures { GoesBehindTables (client_seen self.now.words) read (O.told outside.old)
+            (O.told outside.new) result }
+    {
+        match read {
+            Ok(centre) => self.read_script(outside, centre),
+            Err(end) => end_unread(outside, "tables", end),
+        }
+    }
+
+    /// Reads the script, and plays it.
+    fn read_script<O: Outside>(&self, outside: &mut O, centre: Centre) -> Status
+        ensures { GoesBehindTables (client_seen self.now.words) (Ok centre) (O.told outside.old)
+            (O.told outside.new) result }
+    {
+        let read = read_input(self.alloc, outside, self.words.script, TEXT_LIMIT);
+        self.play_script(outside, centre, read)
+    }
+
+    /// Plays a script that was read to this.
+    fn play_script<O: Outside>(
+        &self,
+        outside: &mut O,
+        centre: Centre,
+        read: Result<Vec<u8>, InputEnd>,
+    ) -> Status
+        ensures { GoesBehindScript (client_seen self.now.words) centre read (O.told outside.old)
+            (O.told outside.new) result }
+    {
+        match read {
+            Ok(text) => self.play_text(outside, centre, &text),
+            Err(end) => end_unread(outside, "script", end),
+        }
+    }
+
+    /// Plays the script with this text over these tables, which are shared.
+    fn play_text<O: Outside>(&self, outside: &mut O, centre: Centre, text: &[u8]) -> Status
+        ensures { PlaysScript (client_seen self.now.words) centre text.now (O.told outside.old)
+            (O.told outside.new) result }
+    {
+        match Arc::new(self.alloc, centre) {
+            Ok(centre) => self.play_shared(outside, &centre, text),
+            Err(_) => Status::Memory,
+        }
+    }
+
+    /// The same of tables that are shared.
+    fn play_shared<O: Outside>(&self, outside: &mut O, centre: &Arc<Centre>, text: &[u8]) -> Status
+        ensures { PlaysScript (client_seen self.now.words) (arc_value centre.now) text.now
+            (O.told outside.old) (O.told outside.new) result }
+    {
+        match Talk::new(self.alloc, centre, text) {
+            Ok(Ok(talk)) => self.connect(outside, talk),
+            Ok(Err(fault)) => refuse(outside, "script", Refusal::BadLine(fault.line)),
+            Err(AllocError) => Status::Memory,
+        }
+    }
+
+    /// Connects, and has a client talk over the link.
+    fn connect<O: Outside>(&self, outside: &mut O, talk: Talk) -> Status
+        ensures { (rows : CentreRows) (text : List ℕ) → IsTalk rows text talk
+            → MeetsNode (client_seen self.now.words) rows text (O.told outside.old)
+            (O.told outside.new) result }
+    {
+        match open_both(outside, self.words.address) {
+            Some((link, sink)) => self.play_opened(outside, talk, link, sink),
+            None => Status::Outside,
+        }
+    }
+
+    /// Has a client talk over a link, closes this, and tells how the client ended.
+    fn play_opened<O: Outside>(
+        &self,
+        outside: &mut O,
+        talk: Talk,
+        link: O::Link,
+        sink: O::Out,
+    ) -> Status
+        ensures { (rows : CentreRows) (text : List ℕ) → IsTalk rows text talk
+            → PlaysOpened rows text (O.Link.told link) (O.Out.told sink) (O.told outside.old)
+            (O.told outside.new) result }
+    {
+        let mut talk = talk;
+        let mut link = link;
+        let mut sink = sink;
+        let end = run_client(self.rt, &mut talk, &mut link, &mut sink);
+        close_link(outside, link);
+        let status = tell_run_end(self.alloc, &mut sink, end);
+        outside.close_out(sink);
+        status
+    }
+}

@@ -1,0 +1,4 @@
+pub mod OfEvents
+pub mod OfJournal
+pub mod OfReports
+pub mod OfOrders

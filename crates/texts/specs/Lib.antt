@@ -1,0 +1,4 @@
+pub mod Events
+pub mod Journal
+pub mod Reports
+pub mod Orders
