@@ -107,8 +107,8 @@ def within(seconds, is_so):
 class Server:
     """The program's server, with a pipe for its feed; its plant's lines are gathered."""
 
-    def __init__(self, tase, folder, tables, *options, environment=None):
-        self.folder, self.port = folder, free_port()
+    def __init__(self, tase, folder, tables, *options, environment=None, port=None):
+        self.folder, self.port = folder, port or free_port()
         with open(f"{folder}/tables", "w") as it:
             it.write(tables)
         words = [tase, "serve", "tables", "--journal", "journal", "--listen", f"127.0.0.1:{self.port}", *options]
