@@ -1,7 +1,7 @@
 //! What may fail in a case, and what must come of it.
 
 use crate::playing::Played;
-use case_text::{Case, Device, Failing, Input, Listening, Network, Node, Wanted, WantedFile};
+use crate::text::{Case, Device, Failing, Input, Listening, Network, Node, Wanted, WantedFile};
 use std::alloc::{AllocError, Global};
 
 // A server starts a job for its feed and one for its clock, and then one for each link.
@@ -20,9 +20,7 @@ fn note_inputs<'a>(
 
 // Notes the calls of a node's link.
 fn note_link<'a>(devices: &mut Vec<(Device, &'a str)>, name: &'a str) -> Result<(), AllocError> {
-    devices.push((Device::Recv, name))?;
-    devices.push((Device::Send, name))?;
-    Ok(())
+    devices.extend_from_slice(&[(Device::Recv, name), (Device::Send, name)])
 }
 
 // Notes the writes of standard output and of files.
@@ -53,8 +51,7 @@ fn note_listening<'a>(
     devices: &mut Vec<(Device, &'a str)>,
     listening: &'a Listening,
 ) -> Result<(), AllocError> {
-    devices.push((Device::Accept, ""))?;
-    devices.push((Device::Start, ""))?;
+    devices.extend_from_slice(&[(Device::Accept, ""), (Device::Start, "")])?;
     note_nodes(devices, &listening.nodes)
 }
 
@@ -106,17 +103,17 @@ pub(crate) fn is_answered(case: &Case, failing: &Failing, played: &Played) -> bo
 // Whether a front part of what is wanted was printed.
 fn is_shown_front(case: &Case, played: &Played) -> bool {
     match &case.wanted {
-        Wanted::Octets(octets) => octets.as_slice().starts_with(&played.shown),
-        Wanted::Count(count) => played.shown.len() as u64 <= *count,
+        Wanted::Octets(octets) => octets.as_slice().starts_with(played.shown()),
+        Wanted::Count(count) => played.shown().len() as u64 <= *count,
         Wanted::Any => true,
     }
 }
 
 // Whether each file took a front part of what it takes where nothing fails.
 fn are_front_parts(case: &Case, played: &Played) -> bool {
-    for (file, came) in case.files.iter().zip(played.files.iter()) {
+    for file in &case.files {
         if let Some(octets) = &file.octets {
-            if !octets.as_slice().starts_with(came.as_slice()) {
+            if !octets.as_slice().starts_with(played.file(&file.name)) {
                 return false;
             }
         }

@@ -4,8 +4,8 @@ use crate::cutting::{Cut, Stream, capture_of, cut_text, joined};
 use crate::faulting::{devices_of, is_answered};
 use crate::playing::{Change, Played, play};
 use crate::showing::{Manner, failure_line, uncut_line};
+use crate::text::{Case, Device, Failing, Wanted, subject};
 use capture_text::read_capture;
-use case_text::{Case, Device, Failing, Wanted, subject};
 use std::alloc::{AllocError, Global};
 use std::sync::Wait;
 use std::thread::Threads;
@@ -32,9 +32,9 @@ fn is_wanted(wanted: &Wanted, shown: &[u8]) -> bool {
 
 // Whether each file took what it must.
 fn are_written(case: &Case, played: &Played) -> bool {
-    for (file, came) in case.files.iter().zip(played.files.iter()) {
+    for file in &case.files {
         if let Some(octets) = &file.octets {
-            if octets.as_slice() != came.as_slice() {
+            if octets.as_slice() != played.file(&file.name) {
                 return false;
             }
         }
@@ -45,7 +45,7 @@ fn are_written(case: &Case, played: &Played) -> bool {
 // Whether a case came out as it must where no call fails that it doesn't say.
 fn is_right(case: &Case, played: &Played) -> bool {
     played.status == case.status
-        && is_wanted(&case.wanted, &played.shown)
+        && is_wanted(&case.wanted, played.shown())
         && are_written(case, played)
         && played.told.is_whole
         && played.have_met
@@ -108,7 +108,7 @@ fn cut_failure(
     cut: Cut,
     played: &Played,
 ) -> Result<Option<Vec<u8>>, AllocError> {
-    let is_same = is_wanted_joined(alloc, &case.wanted, &played.shown)?;
+    let is_same = is_wanted_joined(alloc, &case.wanted, played.shown())?;
     if is_same && played.status == case.status {
         return Ok(None);
     }

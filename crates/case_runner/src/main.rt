@@ -5,12 +5,13 @@
 
 mod cutting;
 mod faulting;
+mod holding;
 mod judging;
 mod playing;
 mod showing;
 mod tally;
+mod text;
 
-use case_text::{BadLine, Case, Sheet, read_cases};
 use judging::judge;
 use showing::bad_line;
 use std::alloc::Global;
@@ -20,6 +21,7 @@ use std::sync::Wait;
 use std::thread::Threads;
 use std::time;
 use tally::Tally;
+use text::{BadLine, Case, Sheet, read_cases};
 
 fn tell_bad_lines<W: Write>(
     out: &mut W,

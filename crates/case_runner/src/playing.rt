@@ -1,8 +1,8 @@
 //! How a case is played: over an outside in memory.
 
-use case_text::{Case, Device, Failing, Failures, Input, Listening, Node, Wanted, WantedFile};
+use crate::holding::{HeldOutside, Plan};
+use crate::text::{Case, Device, Failing, Failures, Input, Listening, Node, Wanted, WantedFile};
 use commands::io::Status;
-use held_outside::{HeldOutside, Plan};
 use job_threads::ThreadSpawner;
 use outside::links::{Link, Listener, ScriptLink, ScriptListener};
 use outside::names::{MemoryOutside, Outside};
@@ -35,13 +35,13 @@ pub(crate) struct Told {
     pub(crate) faults: u64,
 }
 
-/// How a command ended, what it printed, what each file took that the case names, what its nodes
-/// took, and the faults outside and of starts.
+/// How a command ended, what stands outside behind it, what the nodes of its case took, and the
+/// faults outside and of starts.
 #[derive(Drop)]
 pub(crate) struct Played {
     pub(crate) status: u64,
-    pub(crate) shown: Vec<u8>,
-    pub(crate) files: Vec<Vec<u8>>,
+    /// What stands outside, with what was printed and what files took.
+    inside: MemoryOutside,
     pub(crate) told: Told,
     /// Whether all links met that must.
     pub(crate) have_met: bool,
@@ -49,6 +49,19 @@ pub(crate) struct Played {
 }
 
 impl Played {
+    /// What was printed.
+    pub(crate) fn shown(&self) -> &[u8] {
+        self.file("-")
+    }
+
+    /// What the file of this name took.
+    pub(crate) fn file(&self, name: &str) -> &[u8] {
+        match self.inside.sink(name) {
+            Some(sink) => sink.taken(),
+            None => &[],
+        }
+    }
+
     /// Whether anything failed.
     pub(crate) fn has_fault(&self) -> bool {
         self.faults > 0 || self.told.faults > 0
@@ -137,21 +150,48 @@ fn file_room(file: &WantedFile) -> usize {
     wanted.saturating_add(MORE_ROOM).min(MOST_ROOM) as usize
 }
 
-// What stands outside of a case.
-fn outside_of(
+fn put_files(
     alloc: Global,
-    case: &Case,
+    outside: &mut MemoryOutside,
     failures: Failures<'_>,
-) -> Result<MemoryOutside, AllocError> {
-    let mut outside = MemoryOutside::new(alloc)?;
-    put_inputs(alloc, &mut outside, failures, &case.given)?;
-    put_inputs(alloc, &mut outside, failures, &case.own)?;
-    put_sink(alloc, &mut outside, failures, "-", room_of(case))?;
-    for file in &case.files {
-        put_sink(alloc, &mut outside, failures, &file.name, file_room(file))?;
+    files: &[WantedFile],
+) -> Result<(), AllocError> {
+    for file in files {
+        put_sink(alloc, outside, failures, &file.name, file_room(file))?;
     }
-    case.network.put(alloc, &mut outside, failures)?;
-    Ok(outside)
+    Ok(())
+}
+
+// Puts outside what is otherwise than the case says.
+fn put_change(
+    alloc: Global,
+    outside: &mut MemoryOutside,
+    failures: Failures<'_>,
+    change: Change<'_>,
+) -> Result<(), AllocError> {
+    match change {
+        Change::Text(name, text) => {
+            let text = Vec::from_slice(alloc, text)?;
+            put_text(alloc, outside, failures, name, text)
+        }
+        Change::Nothing | Change::Failing(_) => Ok(()),
+    }
+}
+
+// Puts outside what a case says, with this change.
+fn put_case(
+    alloc: Global,
+    outside: &mut MemoryOutside,
+    case: &Case,
+    change: Change<'_>,
+) -> Result<(), AllocError> {
+    let failures = failures_of(case, change);
+    put_inputs(alloc, outside, failures, &case.given)?;
+    put_inputs(alloc, outside, failures, &case.own)?;
+    put_change(alloc, outside, failures, change)?;
+    put_sink(alloc, outside, failures, "-", room_of(case))?;
+    put_files(alloc, outside, failures, &case.files)?;
+    case.network.put(alloc, outside, failures)
 }
 
 // How many links listeners give.
@@ -165,34 +205,13 @@ fn count_links(listens: &[Listening]) -> u64 {
 
 // What standard input of a case waits for: that its nodes were served, and that each call has come
 // that is to fail.
-fn plan_of(alloc: Global, case: &Case, failures: Failures<'_>) -> Result<Plan, AllocError> {
-    Ok(Plan {
+fn plan_of(case: &Case, failures: Failures<'_>) -> Plan {
+    Plan {
         links: count_links(&case.network.listens),
-        accepts: failures.calls(alloc, Device::Accept)?,
-        readings: failures.calls(alloc, Device::Clock)?,
+        accepts: failures.calls(Device::Accept),
+        readings: failures.calls(Device::Clock),
         meeting: case.network.meeting,
-    })
-}
-
-// What the sink of this name took.
-fn written<'a>(outside: &'a MemoryOutside, name: &str) -> &'a [u8] {
-    match outside.sink(name) {
-        Some(sink) => sink.taken(),
-        None => &[],
     }
-}
-
-// What each file of a case took.
-fn files_of(
-    alloc: Global,
-    case: &Case,
-    outside: &MemoryOutside,
-) -> Result<Vec<Vec<u8>>, AllocError> {
-    let mut files = Vec::new(alloc);
-    for file in &case.files {
-        files.push(Vec::from_slice(alloc, written(outside, file.name.as_str()))?)?;
-    }
-    Ok(files)
 }
 
 impl Told {
@@ -250,22 +269,14 @@ fn told_of(case: &Case, outside: &MemoryOutside) -> Told {
 }
 
 // What a case came to that left this outside, by how its command ended.
-fn played_of(
-    alloc: Global,
-    case: &Case,
-    inside: &MemoryOutside,
-    ended: Ended,
-) -> Result<Played, AllocError> {
-    let shown = Vec::from_slice(alloc, written(inside, "-"))?;
-    let files = files_of(alloc, case, inside)?;
-    Ok(Played {
+fn played_of(case: &Case, inside: MemoryOutside, ended: Ended) -> Played {
+    Played {
         status: u64::from(ended.status.code()),
-        shown,
-        files,
-        told: told_of(case, inside),
+        told: told_of(case, &inside),
         have_met: ended.have_met,
         faults: inside.faults().saturating_add(ended.refusals),
-    })
+        inside,
+    }
 }
 
 // How a command ended, whether its links met, and how many starts were refused.
@@ -304,12 +315,8 @@ fn changed_outside_of(
     case: &Case,
     change: Change<'_>,
 ) -> Result<MemoryOutside, AllocError> {
-    let failures = failures_of(case, change);
-    let mut outside = outside_of(alloc, case, failures)?;
-    if let Change::Text(name, text) = change {
-        let text = Vec::from_slice(alloc, text)?;
-        put_text(alloc, &mut outside, failures, name, text)?;
-    }
+    let mut outside = MemoryOutside::new(alloc)?;
+    put_case(alloc, &mut outside, case, change)?;
     Ok(outside)
 }
 
@@ -320,7 +327,7 @@ fn held_outside_of<R: Copy + Drop>(
     case: &Case,
     change: Change<'_>,
 ) -> Result<HeldOutside<MemoryOutside, R>, AllocError> {
-    let plan = plan_of(alloc, case, failures_of(case, change))?;
+    let plan = plan_of(case, failures_of(case, change));
     let inside = changed_outside_of(alloc, case, change)?;
     HeldOutside::new(alloc, *rt, inside, plan)
 }
@@ -335,5 +342,5 @@ pub(crate) fn play<R: Threads + Wait + time::Clock + Copy + Send + 'static>(
     let refused = failures_of(case, change).numbers(alloc, Device::Start, "")?;
     let mut outside = held_outside_of(rt, alloc, case, change)?;
     let ended = run_words(rt, alloc, &case.words, &mut outside, refused);
-    played_of(alloc, case, outside.outside(), ended)
+    Ok(played_of(case, outside.into_outside(), ended))
 }

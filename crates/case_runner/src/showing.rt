@@ -2,7 +2,7 @@
 
 use crate::cutting::{Cut, is_line_end};
 use crate::playing::Played;
-use case_text::{BadLine, Case, Device, Failing, Wanted};
+use crate::text::{BadLine, Case, Device, Failing, Wanted};
 use plain_text::push_decimal;
 use std::alloc::{AllocError, Global};
 
@@ -107,9 +107,9 @@ fn push_file(out: &mut Vec<u8>, name: &str, wanted: &[u8], came: &[u8]) -> Resul
 
 // Appends the files that took something else than they must.
 fn push_files(out: &mut Vec<u8>, case: &Case, played: &Played) -> Result<(), AllocError> {
-    for (file, came) in case.files.iter().zip(played.files.iter()) {
+    for file in &case.files {
         if let Some(octets) = &file.octets {
-            push_file(out, &file.name, octets, came)?;
+            push_file(out, &file.name, octets, played.file(&file.name))?;
         }
     }
     Ok(())
@@ -118,7 +118,7 @@ fn push_files(out: &mut Vec<u8>, case: &Case, played: &Played) -> Result<(), All
 fn push_played(out: &mut Vec<u8>, case: &Case, played: &Played) -> Result<(), AllocError> {
     push_number(out, "status ", case.status, " wanted, ")?;
     push_number(out, "", played.status, " came")?;
-    push_printed(out, &case.wanted, &played.shown)?;
+    push_printed(out, &case.wanted, played.shown())?;
     push_links(out, played)?;
     push_files(out, case, played)
 }

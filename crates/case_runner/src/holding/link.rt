@@ -2,8 +2,8 @@
 ghost use Rattle.std.specs.Prelude.{◌≡◌, ◌<◌, length};
 ghost use Rattle.outside.specs.Links.Links.{ReceivesPiece, SendsPiece, closed_link};
 
-use crate::board::Event;
-use crate::watch::Watch;
+use crate::holding::board::Event;
+use crate::holding::watch::Watch;
 use outside::WriteEnd;
 use outside::links::{Link, Recv};
 use std::marker::Model;

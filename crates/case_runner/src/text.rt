@@ -1,6 +1,5 @@
 //! What the text of case files says: cases, each with the words of a command, what stands outside
 //! and what must come of it; and the nodes and the clock in memory that a case says.
-#![tactic(auto)]
 
 mod cases;
 mod entries;

@@ -3,7 +3,7 @@ ghost use Rattle.std.specs.Prelude.{IfOk};
 ghost use Rattle.outside.specs.Links.Links.{IsNewLink};
 ghost use Rattle.outside.specs.Links.ScriptStates.{script_link_told, AllNewLinks};
 
-use crate::failing::{Device, Failures};
+use crate::text::failing::{Device, Failures};
 use outside::links::{LinkItem, ScriptClock, ScriptLink, ScriptListener};
 use outside::names::MemoryOutside;
 use std::alloc::{AllocError, Global};
@@ -55,8 +55,9 @@ impl Node {
         let items = self.items(alloc)?;
         let recvs = failures.numbers(alloc, Device::Recv, &self.name)?;
         let sends = failures.numbers(alloc, Device::Send, &self.name)?;
+        let name = String::from_str(alloc, &self.name)?;
         let mut link = ScriptLink::new(alloc, items, MOST_TAKEN, MOST_TAKEN, recvs, sends)?;
-        link.set_name(String::from_str(alloc, &self.name)?);
+        link.set_name(name);
         Ok(link)
     }
 

@@ -1,7 +1,7 @@
 use Rattle.std.proofs.Common.{Some, sym, subst}
 use Rattle.outside.specs.Links.ScriptStates.{AllNewLinks}
 use Rattle.outside.proofs.OfLinks.NewLinks.{AllNewLinks-push}
-use Rattle.case_text.proofs.network.Listening.links_of.Goals as goal
+use Rattle.case_runner.proofs.text.network.Listening.links_of.Goals as goal
 
 pub loop-node-preserved : goal.loop-node-preserved
 loop-node-preserved c =

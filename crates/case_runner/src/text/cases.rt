@@ -1,8 +1,8 @@
 //! What a case is.
 
-use crate::failing::Failing;
-use crate::inputs::{Input, input_named};
-use crate::network::Network;
+use crate::text::failing::Failing;
+use crate::text::inputs::{Input, input_named};
+use crate::text::network::Network;
 use std::alloc::{AllocError, Global};
 
 /// What must come out on standard output.

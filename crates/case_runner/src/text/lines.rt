@@ -1,9 +1,9 @@
 //! How the lines of a case are read.
 
-use crate::cases::{Case, Wanted, WantedFile, subject, words_in};
-use crate::failing::{Device, Failing};
-use crate::inputs::append_to;
-use crate::network::{Listening, Node};
+use crate::text::cases::{Case, Wanted, WantedFile, subject, words_in};
+use crate::text::failing::{Device, Failing};
+use crate::text::inputs::append_to;
+use crate::text::network::{Listening, Node};
 use plain_text::{read_hex, read_number};
 use std::alloc::{AllocError, AllocFailed, Global};
 
@@ -24,6 +24,57 @@ impl<T: Drop> From<AllocFailed<T>> for Refused {
     fn from(_: AllocFailed<T>) -> Refused {
         Refused::Memory
     }
+}
+
+// What an entry says by its first word.
+#[derive(Clone, Copy)]
+enum Word {
+    Clock,
+    Connects,
+    Cuts,
+    Fails,
+    Faults,
+    Listens,
+    Meet,
+    Node,
+    Octets,
+    Repeat,
+    Room,
+    Shows,
+    Status,
+    Takes,
+    Text,
+    Words,
+    Writes,
+}
+
+const WORDS: &[(&str, Word)] = &[
+    ("clock", Word::Clock),
+    ("connects", Word::Connects),
+    ("cuts", Word::Cuts),
+    ("fails", Word::Fails),
+    ("faults", Word::Faults),
+    ("listens", Word::Listens),
+    ("meet", Word::Meet),
+    ("node", Word::Node),
+    ("octets", Word::Octets),
+    ("repeat", Word::Repeat),
+    ("room", Word::Room),
+    ("shows", Word::Shows),
+    ("status", Word::Status),
+    ("takes", Word::Takes),
+    ("text", Word::Text),
+    ("words", Word::Words),
+    ("writes", Word::Writes),
+];
+
+fn word_in(text: &str) -> Result<Word, Refused> {
+    for &(name, word) in WORDS {
+        if name == text {
+            return Ok(word);
+        }
+    }
+    Err(Refused::NotRead)
 }
 
 pub(crate) fn number_in(word: &str) -> Result<u64, Refused> {
@@ -335,52 +386,34 @@ impl Case {
         Ok(())
     }
 
-    fn take_number(&mut self, word: &str, number: u64) -> Result<(), Refused> {
+    // An entry of a number.
+    fn take_number(&mut self, word: Word, number: u64) -> Result<(), Refused> {
         match word {
-            "meet" => self.network.meeting = Some(number),
-            "room" => self.room = Some(number),
-            "status" => self.status = number,
+            Word::Meet => self.network.meeting = Some(number),
+            Word::Room => self.room = Some(number),
+            Word::Status => self.status = number,
             _ => return Err(Refused::NotRead),
         }
         Ok(())
     }
 
-    // An entry of one line that says a number, or only its word.
-    fn take_mark(&mut self, word: &str, rest: &str) -> Result<(), Refused> {
-        match word {
-            "cuts" => self.is_cut = true,
-            "faults" => self.is_faulted = true,
-            _ => return self.take_number(word, number_in(rest)?),
-        }
-        Ok(())
-    }
-
     // An entry of one line.
-    fn take_line(&mut self, alloc: Global, word: &str, rest: &str) -> Result<(), Refused> {
+    fn take_line(&mut self, alloc: Global, word: Word, rest: &str) -> Result<(), Refused> {
         match word {
-            "words" => self.take_words(alloc, rest),
-            "octets" => self.take_octets(alloc, rest),
-            "fails" => self.take_fails(alloc, rest),
-            "listens" => self.take_listens(alloc, rest),
-            "clock" => self.take_clock(rest),
-            _ => self.take_mark(word, rest),
-        }
-    }
-
-    // An entry of a node, or of one line.
-    fn take_peer(
-        &mut self,
-        alloc: Global,
-        word: &str,
-        rest: &str,
-        block: Option<&[u8]>,
-    ) -> Result<(), Refused> {
-        match word {
-            "node" => self.take_node(alloc, rest, block),
-            "connects" => self.take_connects(alloc, rest, block),
-            "takes" => self.take_taken(alloc, rest, block.unwrap_or(b"")),
-            _ if block.is_some() => Err(Refused::NotRead),
-            _ => self.take_line(alloc, word, rest),
+            Word::Words => self.take_words(alloc, rest),
+            Word::Octets => self.take_octets(alloc, rest),
+            Word::Fails => self.take_fails(alloc, rest),
+            Word::Listens => self.take_listens(alloc, rest),
+            Word::Clock => self.take_clock(rest),
+            Word::Cuts => {
+                self.is_cut = true;
+                Ok(())
+            }
+            Word::Faults => {
+                self.is_faulted = true;
+                Ok(())
+            }
+            _ => self.take_number(word, number_in(rest)?),
         }
     }
 
@@ -392,12 +425,16 @@ impl Case {
         rest: &str,
         block: Option<&[u8]>,
     ) -> Result<(), Refused> {
-        match word {
-            "shows" => self.take_shows(alloc, rest, block),
-            "text" => self.take_input(alloc, rest, block.unwrap_or(b""), 1),
-            "repeat" => self.take_repeat(alloc, rest, block),
-            "writes" => self.take_file(alloc, rest, block.unwrap_or(b"")),
-            _ => self.take_peer(alloc, word, rest, block),
+        match word_in(word)? {
+            Word::Shows => self.take_shows(alloc, rest, block),
+            Word::Text => self.take_input(alloc, rest, block.unwrap_or(b""), 1),
+            Word::Repeat => self.take_repeat(alloc, rest, block),
+            Word::Writes => self.take_file(alloc, rest, block.unwrap_or(b"")),
+            Word::Node => self.take_node(alloc, rest, block),
+            Word::Connects => self.take_connects(alloc, rest, block),
+            Word::Takes => self.take_taken(alloc, rest, block.unwrap_or(b"")),
+            _ if block.is_some() => Err(Refused::NotRead),
+            word => self.take_line(alloc, word, rest),
         }
     }
 }

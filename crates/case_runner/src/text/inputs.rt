@@ -1,6 +1,6 @@
 //! The inputs of cases.
 
-use crate::lines::Refused;
+use crate::text::lines::Refused;
 use std::alloc::{AllocError, Global};
 
 /// Octets that stand so many times one behind another.

@@ -1,5 +1,5 @@
 use Rattle.outside.specs.Links.ScriptStates.{AllNewLinks}
-use Rattle.case_text.proofs.network.Listening.links_of.Given as goal
+use Rattle.case_runner.proofs.text.network.Listening.links_of.Given as goal
 
 -- the links so far are new
 abbrev pub invariant-loop-node : goal.invariant-loop-node

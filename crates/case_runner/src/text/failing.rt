@@ -62,11 +62,13 @@ impl Failures<'_> {
     }
 
     /// How many calls of this device there must be so that each comes that is to fail.
-    pub fn calls(self, alloc: Global, device: Device) -> Result<u64, AllocError> {
-        let numbers = self.numbers(alloc, device, "")?;
-        match numbers.iter().max() {
-            Some(last) => Ok(last.saturating_add(1)),
-            None => Ok(0),
+    pub fn calls(self, device: Device) -> u64 {
+        let mut calls = 0u64;
+        for failing in self.said.iter().chain(self.more) {
+            if failing.is_of(device, "") {
+                calls = calls.max(failing.number.saturating_add(1));
+            }
         }
+        calls
     }
 }

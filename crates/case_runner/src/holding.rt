@@ -1,7 +1,6 @@
 //! An outside round another one, so that a server over objects in memory can be played: its
 //! standard input comes only once each link was served, and links may meet at a call of recv. Each
 //! wait ends by itself. What the objects tell is what those inside tell.
-#![tactic(auto)]
 
 mod board;
 mod clock;

@@ -2,7 +2,7 @@
 ghost use Rattle.std.specs.Prelude.{◌≡◌, ◌<◌, length};
 ghost use Rattle.outside.specs.Source.{ReadsSource};
 
-use crate::watch::Watch;
+use crate::holding::watch::Watch;
 use outside::{ReadEnd, Source};
 use std::marker::Model;
 use std::time;

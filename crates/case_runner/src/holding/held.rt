@@ -4,11 +4,11 @@ ghost use Rattle.outside.specs.Names.Outside.{OpensIn, ClosesIn, OpensOut, Close
 ghost use Rattle.outside.specs.Names.Outside.{Listens, ClosesListener, Connects, ClosesLink};
 ghost use Rattle.outside.specs.Names.Outside.{OpensClock, ClosesClock};
 
-use crate::board::Plan;
-use crate::clock::HeldClock;
-use crate::listener::HeldListener;
-use crate::source::HeldSource;
-use crate::watch::Watch;
+use crate::holding::board::Plan;
+use crate::holding::clock::HeldClock;
+use crate::holding::listener::HeldListener;
+use crate::holding::source::HeldSource;
+use crate::holding::watch::Watch;
 use outside::names::Outside;
 use std::alloc::{AllocError, Global};
 use std::marker::Model;
@@ -49,10 +49,13 @@ impl<O, R> HeldOutside<O, R> {
     }
 
     /// The outside inside.
-    pub fn outside(&self) -> &O
-        ensures { result.now ≡ self.now }
+    pub fn into_outside(self) -> O
+    where
+        R: Drop,
+        ensures { result ≡ self }
     {
-        &self.outside
+        let HeldOutside { outside, watch: _ } = self;
+        outside
     }
 }
 

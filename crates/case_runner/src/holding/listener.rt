@@ -3,9 +3,9 @@ ghost use Rattle.std.specs.Prelude.{◌≡◌};
 ghost use Rattle.outside.specs.Links.Listeners.{AcceptsLink, MayRetire, RetiredIsWithin};
 ghost use Rattle.outside.specs.Links.Listeners.{link_given, is_failed_accept, with_retired};
 
-use crate::board::Event;
-use crate::link::HeldLink;
-use crate::watch::Watch;
+use crate::holding::board::Event;
+use crate::holding::link::HeldLink;
+use crate::holding::watch::Watch;
 use outside::links::{Accept, Listener};
 use std::marker::Model;
 use std::time;

@@ -2,8 +2,8 @@
 ghost use Rattle.std.specs.Prelude.{◌≡◌};
 ghost use Rattle.outside.specs.Links.Clocks.{ReadsClock};
 
-use crate::board::Event;
-use crate::watch::Watch;
+use crate::holding::board::Event;
+use crate::holding::watch::Watch;
 use outside::links::Clock;
 use std::marker::Model;
 use std::time;

@@ -1,7 +1,7 @@
 //! How an object notes what happens to it, and waits for what happens to others.
 ghost use Rattle.std.specs.Prelude.{◌≡◌};
 
-use crate::board::{Board, Event, Plan};
+use crate::holding::board::{Board, Event, Plan};
 use std::alloc::{AllocError, Global};
 use std::sync::Arc;
 use std::thread;

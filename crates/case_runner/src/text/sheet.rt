@@ -1,9 +1,9 @@
 //! How case files are read.
 
-use crate::cases::Case;
-use crate::entries::{Entry, entries_in};
-use crate::inputs::{Input, append_to};
-use crate::lines::{Refused, block_of, name_in, number_in, word_and_rest};
+use crate::text::cases::Case;
+use crate::text::entries::{Entry, entries_in};
+use crate::text::inputs::{Input, append_to};
+use crate::text::lines::{Refused, block_of, name_in, number_in, word_and_rest};
 use std::alloc::{AllocError, Global};
 
 /// A line that isn't read.
@@ -52,14 +52,10 @@ struct Reader {
 }
 
 // The lines of a column, between which ` / ` stands, each ended by LF.
-fn lines_in(alloc: Global, column: &str) -> Result<Vec<u8>, AllocError> {
-    let mut text = Vec::new(alloc);
-    if column.is_empty() {
-        return Ok(text);
-    }
-    for line in column.split(" / ") {
-        text.extend_from_slice(line.as_bytes())?;
-        text.push(b'\n')?;
+fn lines_in(alloc: Global, column: &str) -> Result<String, AllocError> {
+    let mut text = column.replace(alloc, " / ", "\n")?;
+    if !column.is_empty() {
+        text.push('\n')?;
     }
     Ok(text)
 }
@@ -80,8 +76,8 @@ impl Case {
         status: &str,
         output: &str,
     ) -> Result<(), Refused> {
-        self.take_subject(alloc, &lines_in(alloc, input)?)?;
-        self.wants(alloc, &lines_in(alloc, output)?)?;
+        self.take_subject(alloc, lines_in(alloc, input)?.as_bytes())?;
+        self.wants(alloc, lines_in(alloc, output)?.as_bytes())?;
         self.status = number_in(status.trim())?;
         Ok(())
     }
