@@ -8,6 +8,9 @@ use outside::count_fault;
 use outside::links::{Clock, READING_LIMIT};
 use std::marker::Model;
 
+// Every second up to 2^31 - 1 can be told.
+const _: () = prove!(READING_LIMIT == 2_147_483_648_000);
+
 /// One attempt at reading the time.
 pub trait ClockAttempt {
     /// What an attempt may come to, in milliseconds since 1970, and what it leaves of the object.

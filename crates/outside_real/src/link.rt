@@ -110,4 +110,8 @@ impl<T: SocketAttempt> Link for RealLink<T> {
     fn faults(&self) -> u64 {
         self.faults
     }
+
+    fn note(&self, words: &str) {
+        self.socket.note(words);
+    }
 }

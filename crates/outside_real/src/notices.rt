@@ -34,10 +34,19 @@ impl<R: Eprint + Clock> Notices<R> {
             None => eprintln!(self.runtime; "{what}"),
         };
     }
+
+    /// Shows a line of less than 4,000 octets as it is, without a moment.
+    pub fn show<D: Display + Drop>(&self, line: D) {
+        if has_room() {
+            let _result = eprintln!(self.runtime; "{line}");
+        }
+    }
 }
 
 /// How many octets of a text from outside a notice has at most.
 const MOST_OCTETS: usize = 1000;
+
+const _: () = prove!(MOST_OCTETS == 1_000);
 
 /// The text, where it is short enough for a notice.
 pub(crate) fn short(text: &str) -> &str {

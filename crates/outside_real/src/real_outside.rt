@@ -17,7 +17,7 @@ use crate::source::ReadSource;
 use crate::steady_clock::SteadyClock;
 use crate::stream::Stream;
 use crate::system_clock::SystemClocks;
-use crate::tcp::{TcpGate, TcpSocket};
+use crate::tcp::{TcpGate, TcpSocket, is_address};
 use outside::links::{Clock, Link, Listener};
 use outside::names::Outside;
 use outside::{Sink, Source, count_fault};
@@ -27,6 +27,9 @@ use std::marker::Model;
 use std::net::Net;
 use std::rt::Files;
 use std::{fs, io, time};
+
+/// What is told of a text that is no address.
+const NO_ADDRESS: &str = "an address is an IP address and a port, as 127.0.0.1:102 or [::1]:102";
 
 /// Opens files by their paths, and listens and connects at addresses of TCP such as `127.0.0.1:102`
 /// or `[::1]:102`. `-` is standard input or standard output. An output file is made, or emptied.
@@ -110,14 +113,14 @@ impl<'a, R: Files + Input + Print + Eprint + Net + time::Clock + Copy> Outside
             (option_map (λ listener. listener_told listener.1) result) }
     {
         let outcome = TcpGate::listen(*self.runtime, address);
-        let notices = Notices::new(*self.runtime);
-        let shown = short(address);
         match &outcome {
             Ok(_) => {
+                let notices = Notices::new(*self.runtime);
+                let shown = short(address);
                 tell_few_descriptors(&notices);
                 notices.tell(format_args!("listening at {shown}"));
             }
-            Err(error) => notices.tell(format_args!("can't listen at {shown}: {error}")),
+            Err(error) => tell_unusable(*self.runtime, "listen at", address, error),
         }
         let listener = outcome.ok();
         self.faults = count_fault(self.faults, listener.is_none());
@@ -139,8 +142,7 @@ impl<'a, R: Files + Input + Print + Eprint + Net + time::Clock + Copy> Outside
     {
         let outcome = TcpSocket::connect(*self.runtime, address);
         if let Err(error) = &outcome {
-            let shown = short(address);
-            Notices::new(*self.runtime).tell(format_args!("can't connect to {shown}: {error}"));
+            tell_unusable(*self.runtime, "connect to", address, error);
         }
         let link = outcome.ok();
         self.faults = count_fault(self.faults, link.is_none());
@@ -162,6 +164,26 @@ impl<'a, R: Files + Input + Print + Eprint + Net + time::Clock + Copy> Outside
 
     fn faults(&self) -> u64 {
         self.faults
+    }
+
+    fn note(&self, words: &str) {
+        Notices::new(*self.runtime).tell(short(words));
+    }
+}
+
+// Lets an operator know that an address can't be used so, and why.
+fn tell_unusable<R: Eprint + time::Clock + Copy>(
+    runtime: R,
+    attempt: &str,
+    address: &str,
+    error: &io::Error,
+) {
+    let notices = Notices::new(runtime);
+    let shown = short(address);
+    if is_address(address) {
+        notices.tell(format_args!("can't {attempt} {shown}: {error}"));
+    } else {
+        notices.tell(format_args!("can't {attempt} {shown}: {NO_ADDRESS}"));
     }
 }
 

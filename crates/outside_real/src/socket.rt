@@ -17,6 +17,8 @@ use std::io::ErrorKind;
 /// From this age on a link that gave no octet is at its end, in milliseconds.
 pub const SILENCE_LIMIT: u64 = 30_000;
 
+const _: () = prove!(SILENCE_LIMIT == 30_000);
+
 /// A connection whose reads and writes never wait. Each ghost member says what an attempt may come
 /// to, and what it leaves of the object.
 pub trait SocketAttempt {
@@ -57,6 +59,9 @@ pub trait SocketAttempt {
     /// Ends both directions. Octets that were written before still go out.
     fn shut(&mut self)
         ensures { shuts self.old self.new };
+
+    /// Lets an operator know what became of it, under the other node's address.
+    fn note(&self, words: &str);
 }
 
 /// What an attempt came to that no signal interrupted.

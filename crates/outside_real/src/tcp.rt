@@ -6,7 +6,7 @@ ghost use Rattle.outside_real.specs.RealLinks.{RealLinkState, new_real_link};
 use crate::gate::{AcceptAttempt, is_hindrance, is_no_arrival};
 use crate::link::RealLink;
 use crate::listener::RealListener;
-use crate::notices::Notices;
+use crate::notices::{Notices, short};
 use crate::options::set_options;
 use crate::socket::{SocketAttempt, would_wait};
 use crate::stream::is_interrupted;
@@ -40,6 +40,10 @@ const _: () = prove!(CONNECT_WAIT == 5000);
 const MOST_PIECES: u32 = 512;
 
 const PIECE: usize = 16_384;
+
+const _: () = prove!(MOST_PIECES == 512);
+
+const _: () = prove!(PIECE == 16_384);
 
 // Waits until a descriptor may be ready for these events, or so many milliseconds are up. It
 // answers false where it couldn't wait.
@@ -125,6 +129,11 @@ fn wait_for_node(stream: &TcpStream) -> io::Result<()> {
     Ok(())
 }
 
+/// Whether a text is an address such as `127.0.0.1:102` or `[::1]:102`.
+pub(crate) fn is_address(text: &str) -> bool {
+    text.parse::<SocketAddr>().is_ok()
+}
+
 // The address that a text such as `127.0.0.1:102` or `[::1]:102` is.
 fn socket_address(text: &str) -> io::Result<SocketAddr> {
     match text.parse::<SocketAddr>() {
@@ -191,9 +200,17 @@ impl<R: Clock + Eprint + Copy> SocketAttempt for TcpSocket<R> {
             return;
         };
         close(stream);
-        if self.accepted.is_some() {
-            tell_end(self.runtime, self.address, self.was_asked);
+        if self.accepted.is_some() && !self.was_asked {
+            let address = self.address;
+            let notices = Notices::new(self.runtime);
+            notices.tell(format_args!("turned the connection from {address} away"));
         }
+    }
+
+    fn note(&self, words: &str) {
+        let address = self.address;
+        let shown = short(words);
+        Notices::new(self.runtime).tell(format_args!("{address}: {shown}"));
     }
 }
 
@@ -207,16 +224,6 @@ fn tell_fault<R: Clock + Eprint + Copy>(
 ) {
     if !would_wait(error) && !is_interrupted(error) {
         Notices::new(runtime).tell(format_args!("{what} {address} failed: {error}"));
-    }
-}
-
-// Tells that a connection which was accepted was closed. One that was never read was turned away.
-fn tell_end<R: Clock + Eprint + Copy>(runtime: R, address: SocketAddr, was_asked: bool) {
-    let notices = Notices::new(runtime);
-    if was_asked {
-        notices.tell(format_args!("closed the connection from {address}"));
-    } else {
-        notices.tell(format_args!("turned the connection from {address} away"));
     }
 }
 

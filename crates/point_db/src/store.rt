@@ -14,6 +14,9 @@ use tase_points::{Kind, PointValue, changes, unknown};
 /// Where the serial number of changes stands still.
 pub const SERIAL_LIMIT: u64 = u64::MAX;
 
+// Definitions cite this limit, so that it stands here as a number too.
+const _: () = prove!(SERIAL_LIMIT == 18_446_744_073_709_551_615);
+
 /// The last value of each point, how often it has changed, and the number that all changes had
 /// reached at its last one. No call looks through the points.
 #[derive(Debug, Drop)]

@@ -29,6 +29,13 @@ pub const CLOSE_INHIBITED: u8 = 2;
 /// The largest number that a tag has; 0 inhibits nothing.
 pub const TAG_LIMIT: u8 = 2;
 
+// Definitions cite these numbers, so that each stands here once more.
+const _: () = prove!(OPEN_AND_CLOSE_INHIBITED == 1);
+
+const _: () = prove!(CLOSE_INHIBITED == 2);
+
+const _: () = prove!(TAG_LIMIT == 2);
+
 /// A device: what it takes, its tag, and who holds it.
 #[derive(Debug, Drop)]
 pub struct Device {

@@ -12,7 +12,7 @@ ghost use Rattle.tase_conn.specs.declared.stage.Progress.TheVariants as progress
 ghost use Rattle.tase_conn.specs.declared.stage.PendingEvent.TheVariants as askeds;
 ghost use Rattle.tase_conn.specs.Talking.{pending_of, next_pending, conn_end_in, IsResting};
 ghost use Rattle.tase_conn.specs.Talking.{is_leaving};
-ghost use Rattle.tase_conn.specs.Talking.{is_running};
+ghost use Rattle.tase_conn.specs.Talking.{is_running, stage_peer};
 ghost use Rattle.tase_conn.specs.Places.{ConnStandsAt, IsPlaced, KeepsPlace, GainsItem};
 ghost use Rattle.tase_conn.specs.Taken.{TakesIn, SendsSome};
 ghost use Rattle.tase_conn.specs.Answering.{limit_at};
@@ -196,6 +196,16 @@ impl Conn {
         match self.stage {
             Stage::Early => FIRST_LIMIT,
             Stage::Open { peer, .. } | Stage::Closed { peer } => self.centre.table(peer).pending,
+        }
+    }
+
+    /// The number of the peer whose association it is or was, if there was one.
+    pub fn peer(&self) -> Option<u32>
+        ensures { result ≡ stage_peer self.now.stage }
+    {
+        match self.stage {
+            Stage::Early => None,
+            Stage::Open { peer, .. } | Stage::Closed { peer } => Some(peer),
         }
     }
 

@@ -28,6 +28,9 @@ const _: () = prove!(MILLIS_LIMIT == 999);
 /// The flags of a value that is not valid.
 const NOT_VALID: u8 = 48;
 
+// A definition cites it too.
+const _: () = prove!(NOT_VALID == 48);
+
 /// A point's value with its quality flags and its time.
 #[derive(Clone, Copy, Debug, PartialEq, Eq)]
 pub struct PointValue {

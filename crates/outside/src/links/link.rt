@@ -42,4 +42,7 @@ pub trait Link {
     /// The number of faults so far. It stands still at the type's end.
     fn faults(&self) -> u64
         ensures { result ≡ (told self.now).faults };
+
+    /// Lets an operator know, where there is one, what became of this link. Nothing else changes.
+    fn note(&self, words: &str);
 }

@@ -235,4 +235,6 @@ impl Link for ScriptLink {
     fn faults(&self) -> u64 {
         self.faults
     }
+
+    fn note(&self, _words: &str) {}
 }

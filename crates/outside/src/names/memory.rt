@@ -306,4 +306,6 @@ impl Outside for MemoryOutside {
     fn faults(&self) -> u64 {
         self.faults
     }
+
+    fn note(&self, _words: &str) {}
 }

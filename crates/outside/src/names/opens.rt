@@ -73,4 +73,7 @@ pub trait Outside {
     /// at the type's end.
     fn faults(&self) -> u64
         ensures { result ≡ (told self.now).faults };
+
+    /// Lets an operator know, where there is one, what happens. Nothing else changes.
+    fn note(&self, words: &str);
 }
