@@ -1,8 +1,9 @@
 //! A job that was started: its thread, and once that is joined what came of it.
 ghost use Rattle.std.specs.Prelude.{◌≡◌, Some};
-ghost use Rattle.job_threads.specs.Threading.{IsWorkOf, IsSpawned};
+ghost use Rattle.job_threads.specs.Threading.{IsStarted, Settles, SettleEach, jobs_of, threads_of};
+ghost use Rattle.job_threads.specs.Threading as own;
 
-use crate::thread_job::{JobThread, Unstarted, spawn_job};
+use crate::thread_job::{JobThread, Running, Unstarted, spawn_job};
 use outside::links::Job;
 use std::alloc::Global;
 use std::collections::VecDeque;
@@ -13,21 +14,26 @@ use std::thread::Threads;
 
 /// A job that was started.
 #[derive(Drop)]
-pub struct StartedJob<J: Job> {
+pub struct StartedJob<J: Job, T: Running<J>> {
     job: Snapshot<J>,
     /// The thread that does it, up to its end.
-    thread: Option<JobThread<J>>,
+    thread: Option<T>,
     /// What came of it, once its thread was joined.
     done: Option<J::Done>,
 }
 
-// What contracts see: the job.
-impl<J: Job> Model for StartedJob<J> {
-    ghost Value = { J };
+// What contracts see: the job, and its thread up to where that is joined.
+impl<J: Job, T: Running<J>> Model for StartedJob<J, T> {
+    ghost use Rattle.job_threads.specs.Threading.{Work, IsWorkOf};
 
-    ghost view = { λ s. s.job.value };
+    ghost Value = { Work J T };
 
-    ghost invariant = { λ s. IsWorkOf J.may_give s.job.value s.thread s.done };
+    ghost view = { λ s. record {
+      job = s.job.value;
+      thread = s.thread;
+    } };
+
+    ghost invariant = { λ s. IsWorkOf T.job_of J.may_give s.job.value s.thread s.done };
 }
 
 /// Keeps a value where there is none.
@@ -37,37 +43,41 @@ fn keep<T: Drop>(place: &mut Option<T>, value: T)
     *place = Some(value);
 }
 
-impl<J: Job + Send + Drop + 'static> StartedJob<J>
+/// Starts a job in a thread of its own.
+pub fn start_job<J: Job + Send + Drop + 'static, R: Threads + Wait + Copy + Send + 'static>(
+    rt: &R,
+    alloc: Global,
+    job: J,
+) -> Result<StartedJob<J, JobThread<J>>, Unstarted<J>>
 where
     J::Done: Send + Drop + 'static,
+    ensures { IsStarted job result }
 {
-    /// Starts the job in a thread of its own.
-    pub fn start<R: Threads + Wait + Copy + Send + 'static>(
-        rt: &R,
-        alloc: Global,
-        job: J,
-    ) -> Result<StartedJob<J>, Unstarted<J>>
-        ensures { IsSpawned job result }
-    {
-        let snapshot = Snapshot::of(&job);
-        match spawn_job(rt, alloc, job) {
-            Ok(thread) => Ok(StartedJob {
-                job: snapshot,
-                thread: Some(thread),
-                done: None,
-            }),
-            Err(unstarted) => Err(unstarted),
-        }
+    let snapshot = Snapshot::of(&job);
+    match spawn_job(rt, alloc, job) {
+        Ok(thread) => Ok(StartedJob {
+            job: snapshot,
+            thread: Some(thread),
+            done: None,
+        }),
+        Err(unstarted) => Err(unstarted),
     }
+}
 
+impl<J: Job, T: Running<J> + Drop> StartedJob<J, T>
+where
+    J::Done: Drop,
+{
     /// Whether its thread is still to be joined.
-    pub fn is_in_thread(&self) -> bool {
+    pub fn is_in_thread(&self) -> bool
+        ensures { result ≡ own.is_in_thread self.now }
+    {
         self.thread.is_some()
     }
 
     /// Joins its thread where that is over, and keeps what came of the job.
     pub fn settle<R: Threads + Wait>(&mut self, rt: &R)
-        ensures { self.new ≡ self.old }
+        ensures { Settles T.over self.old self.new }
     {
         match self.thread.take() {
             Some(thread) if thread.is_over() => keep(&mut self.done, thread.join(rt)),
@@ -78,7 +88,7 @@ where
 
     /// Waits for what comes of the job.
     pub fn finish<R: Threads + Wait>(self, rt: &R) -> J::Done
-        ensures { J.may_give self result }
+        ensures { J.may_give self.job result }
     {
         let StartedJob {
             job: _,
@@ -96,13 +106,15 @@ where
 }
 
 /// Joins the threads of these jobs that are over, and counts the others.
-pub fn settle_all<J: Job + Send + Drop + 'static, R: Threads + Wait>(
+pub fn settle_all<J: Job, T: Running<J> + Drop, R: Threads + Wait>(
     rt: &R,
-    jobs: &mut VecDeque<StartedJob<J>>,
+    jobs: &mut VecDeque<StartedJob<J, T>>,
 ) -> usize
 where
-    J::Done: Send + Drop + 'static,
-    ensures { jobs.new.items ≡ jobs.old.items }
+    J::Done: Drop,
+    ensures settles { SettleEach T.over jobs.old.items jobs.new.items }
+    ensures same { jobs_of jobs.new.items ≡ jobs_of jobs.old.items }
+    ensures counts { result ≡ threads_of jobs.new.items }
 {
     let mut threads = 0;
     for at in 0..jobs.len() {

@@ -1,6 +1,7 @@
 //! One job in a thread of its own.
-ghost use Rattle.std.specs.Prelude.{◌≡◌};
+ghost use Rattle.std.specs.Prelude.{◌≡◌, Bool, ⊤};
 ghost use Rattle.job_threads.specs.Threading.{ComesOf, IsSpawned};
+ghost use Rattle.job_threads.specs.Threading as own;
 
 use outside::links::Job;
 use std::alloc::Global;
@@ -44,21 +45,36 @@ impl<J: Job> Model for JobThread<J> {
     ghost view = { λ s. s.handle.promise.job.value };
 }
 
-impl<J: Job> JobThread<J> {
-    /// True only where the job has run: the thread then ends at once.
-    pub fn is_over(&self) -> bool {
+/// A thread that does a job.
+pub trait Running<J: Job> {
+    /// The job.
+    ghost job_of: { Self → J };
+
+    /// What the thread may answer that is asked whether it is over.
+    ghost over: { Self → Bool → Type 0 };
+
+    /// Whether the job has run: the thread then ends at once.
+    fn is_over(&self) -> bool
+        ensures { over self.now result };
+
+    /// Waits for what comes of the job.
+    fn join<R: Threads + Wait>(self, rt: &R) -> J::Done
+        ensures { J.may_give (job_of self) result };
+}
+
+impl<J: Job> Running<J> for JobThread<J> {
+    ghost job_of = { λ thread. thread };
+
+    ghost over = { λ thread answer. ⊤ };
+
+    fn is_over(&self) -> bool {
         self.is_over.load(Ordering::SeqCst)
     }
 
-    /// Waits for what comes of the job.
-    pub fn join<R: Threads + Wait>(self, rt: &R) -> J::Done
-    where
-        J: Drop,
-        ensures { J.may_give self result }
-    {
+    fn join<R: Threads + Wait>(self, rt: &R) -> J::Done {
         match self.handle.join(rt) {
             Outcome::Ran(done) => done,
-            Outcome::Unrun(_) => wait_forever(rt),
+            Outcome::Unrun(job) => wait_with(rt, job),
         }
     }
 }
@@ -70,6 +86,18 @@ pub enum Unstarted<J> {
     Memory(J),
     /// No thread could be made.
     Refused(J),
+}
+
+impl<J> Unstarted<J> {
+    /// Whether no thread could be made.
+    pub fn is_refused(&self) -> bool
+        ensures { result ≡ own.is_refused self.now }
+    {
+        match self {
+            Unstarted::Memory(_) => false,
+            Unstarted::Refused(_) => true,
+        }
+    }
 }
 
 /// Runs the job, and says last that it is over. A job of which that is said before was called back:
@@ -91,6 +119,14 @@ fn run_unless<J: Job, R: Wait + Copy>(
 
 /// Waits without end.
 pub fn wait_forever<R: Wait, T>(rt: &R) -> T
+    ensures { ⊥ }
+{
+    for _ in rt.forever() {}
+    unreachable!()
+}
+
+/// Waits without end, and keeps a value.
+fn wait_with<R: Wait, K, T>(rt: &R, _kept: K) -> T
     ensures { ⊥ }
 {
     for _ in rt.forever() {}
