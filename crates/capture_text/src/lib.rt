@@ -1,7 +1,7 @@
 //! Captures: octets written down as lines of hexadecimal digits.
 #![tactic(auto)]
 
-ghost use Rattle.std.specs.Prelude.{◌≡◌, Ok, Err, IfOk, MatchResult};
+ghost use Rattle.std.specs.Prelude.{◌≡◌, Ok, Err, IfOk, IsOk, IsErr, MatchResult};
 ghost use Rattle.capture_text.specs.Captures.{capture_in};
 
 mod lines;
@@ -11,11 +11,12 @@ pub use pieces::{Pieces, read_pieces};
 use std::alloc::{AllocError, Global};
 
 /// The octets of a capture as `read_pieces` hands them out, all at once; or the number of its first
-/// bad line.
+/// bad line, which is told whether memory is left or not.
 pub fn read_capture(alloc: Global, text: &[u8]) -> Result<Result<Vec<u8>, u64>, AllocError>
-    ensures { IfOk result (λ read. MatchResult read
+    ensures read { IfOk result (λ read. MatchResult read
         (λ octets. capture_in text.now ≡ Ok octets.items)
         (λ line. capture_in text.now ≡ Err line)) }
+    ensures memory { IsErr result → IsOk (capture_in text.now) }
 {
     match read_pieces(text) {
         Ok(pieces) => Ok(Ok(join_pieces(alloc, pieces)?)),
@@ -24,7 +25,7 @@ pub fn read_capture(alloc: Global, text: &[u8]) -> Result<Result<Vec<u8>, u64>, 
 }
 
 /// The octets of all pieces, one piece behind another.
-fn join_pieces(alloc: Global, pieces: Pieces<'_>) -> Result<Vec<u8>, AllocError>
+pub fn join_pieces(alloc: Global, pieces: Pieces<'_>) -> Result<Vec<u8>, AllocError>
     ensures { IfOk result (λ octets. octets.items ≡ pieces.entry) }
 {
     let mut pieces = pieces;

@@ -1,5 +1,5 @@
 //! The lines of a capture: `plain_text::next_line`, whose search for the end of a line looks at one
-//! octet after another, by a search over vectors (measured, docs/EVIDENCE.md).
+//! octet after another, by a search over vectors (measured, docs/proof/EVIDENCE.md).
 ghost use Rattle.std.specs.Prelude.{◌≡◌, ◌==◌, ◌<◌, [], ◌∷◌, length, position, IfSome, IfNone};
 ghost use Rattle.std.specs.Str.Lines.{lines, strip_carriage_return};
 

@@ -160,7 +160,7 @@ fn decode_front(digits: &[u8], piece: &mut [u8]) -> usize
 }
 
 /// Makes octets of pairs of digits. In place of `hex::decode_to_slice`: a loop without a branch or
-/// an exit on what a digit is, which LLVM turns into vectors (measured, docs/EVIDENCE.md).
+/// an exit on what a digit is, which LLVM turns into vectors (measured, docs/proof/EVIDENCE.md).
 fn decode_pairs(digits: &[u8], octets: &mut [u8])
     requires pairs { ArePairs digits.now }
     requires size { length digits.now ≡ 2 * length octets.old }
