@@ -9,3 +9,4 @@ mod BankLists
 mod FirstMoments
 mod NextMoments
 mod DueIndexes
+pub mod DueTrees

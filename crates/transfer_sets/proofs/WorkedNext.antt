@@ -4,7 +4,7 @@ use Rattle.std.proofs.Common.{None, subst, refl, arith}
 use Rattle.transfer_sets.specs.SlotState.{SlotState, enabled_by}
 use Rattle.transfer_sets.specs.Due.{AreDue, conditions_due}
 use Rattle.transfer_sets.specs.NextDue.{IsNextMoment, has_come, earlier}
-use Rattle.transfer_sets.specs.DueIndex.{next_at, IsFirst, IsNextCome}
+use Rattle.transfer_sets.specs.DueIndex.{next_at, IsFirst}
 use Rattle.transfer_sets.proofs.DueNumbers.{one_number, some_number}
 use Rattle.transfer_sets.proofs.DueLater.{none_earlier}
 use Rattle.transfer_sets.proofs.NextMoments.{no_next, some_next}
@@ -103,11 +103,3 @@ lowest_of_two = record { within = omega arith; here = refl; least = least; lowes
     lowest zero below e = let same = some_same 5000 3000 e in omega (arith, same)
     lowest (suc zero) below e = absurd cc
     lowest (suc (suc t)) below e = absurd (omega (arith, below))
-
-come_from_one_on : IsNextCome index 1 4000 (Some 2)
-come_from_one_on = record { from = omega arith; within = omega arith; come = refl; lowest = lowest }
-  where
-    lowest : (s : ℕ) → 1 ≤ s → s < 2 → has_come (next_at index s) 4000 ≡ false
-    lowest zero from below = absurd (omega (arith, from))
-    lowest (suc zero) from below = refl
-    lowest (suc (suc s)) from below = absurd (omega (arith, below))

@@ -26,26 +26,15 @@ IsFirstOf index n (Some first) = IsLeastOf index n first.0 first.1
 abbrev pub IsFirst : List (Option ℕ) → Option (ℕ × ℕ) → Type 0
 IsFirst index first = IsFirstOf index (length index) first
 
--- no moment of an index is before this one
-abbrev pub AreFrom : List (Option ℕ) → ℕ → Type 0
-AreFrom index earliest = (s moment : ℕ) → next_at index s ≡ Some moment → earliest ≤ moment
-
 -- the moments of the slots from one on and below another haven't come
 abbrev pub HaveNotCome : List (Option ℕ) → ℕ → ℕ → ℕ → Type 0
 HaveNotCome index to after end =
     (s : ℕ) → after ≤ s → s < end → has_come (next_at index s) to ≡ false
 
--- the lowest slot, from one on, whose moment has come, and there is one
-pub record IsLowestCome (index : List (Option ℕ)) (after to s : ℕ) : Type 0 where
-  pub from : after ≤ s
-  pub within : s < length index
-  pub come : has_come (next_at index s) to ≡ true
-  pub lowest : HaveNotCome index to after s
-
--- the lowest slot, from one on, whose moment has come; none where the moment of no slot has
-abbrev pub IsNextCome : List (Option ℕ) → ℕ → ℕ → Option ℕ → Type 0
-IsNextCome index after to None = HaveNotCome index to after (length index)
-IsNextCome index after to (Some s) = IsLowestCome index after to s
+-- the moment of a slot has come
+abbrev pub HasAnyCome : List (Option ℕ) → ℕ → Type 0
+HasAnyCome index now =
+    (s : ℕ) × (s < length index) × (has_come (next_at index s) now ≡ true)
 
 -- An index holds for each slot of a bank the next moment, after now, at which something of the slot
 -- is due.

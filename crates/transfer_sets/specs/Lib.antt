@@ -7,3 +7,4 @@ pub mod Components
 pub mod WishData
 pub mod NextDue
 pub mod DueIndex
+pub mod DueTree

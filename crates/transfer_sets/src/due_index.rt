@@ -1,10 +1,10 @@
 //! Transfer sets by the next moment at which something of each is due.
-ghost use Rattle.std.specs.Prelude.{◌≡◌, ◌↔◌, ◌<◌, ◌+◌, ℕ, IsTrue, List, Option, None, length};
-ghost use Rattle.std.specs.Prelude.{replicate, slice_set, IfOk, true, false};
+ghost use Rattle.std.specs.Prelude.{◌≡◌, ◌<◌, ℕ, List, Option, None, length, replicate, slice_set};
+ghost use Rattle.std.specs.Prelude.{IfOk, true, false};
 ghost use Rattle.transfer_sets.specs.NextDue.{has_come};
-ghost use Rattle.transfer_sets.specs.DueIndex.{next_at, IsFirstOf, IsFirst, IsNextCome};
-ghost use Rattle.transfer_sets.specs.DueIndex.{HaveNotCome};
+ghost use Rattle.transfer_sets.specs.DueIndex.{next_at, IsFirst, HaveNotCome, HasAnyCome};
 
+use crate::due_tree::{first_in, no_firsts, renew};
 use std::alloc::{AllocError, Global};
 use std::marker::Model;
 
@@ -13,20 +13,20 @@ use std::marker::Model;
 #[derive(Debug, Drop)]
 pub struct DueIndex {
     moments: Vec<Option<u64>>,
-    /// No moment is before this one.
-    earliest: u64,
+    /// The inner nodes of a tree over the moments, each with the first moment below it.
+    firsts: Vec<Option<(u64, u32)>>,
 }
 
 impl Model for DueIndex {
     ghost use Rattle.std.specs.Prelude.{◌<◌, ℕ, List, Option, vec_len};
-    ghost use Rattle.transfer_sets.specs.DueIndex.{AreFrom};
+    ghost use Rattle.transfer_sets.specs.DueTree.{IsDueTree};
 
     ghost Value = { List (Option ℕ) };
 
     ghost view = { λ d. d.moments.items };
 
     ghost invariant = { λ d. (vec_len d.moments < 4294967296)
-        × AreFrom d.moments.items d.earliest };
+        × IsDueTree d.moments.items d.firsts.items };
 }
 
 impl DueIndex {
@@ -38,18 +38,8 @@ impl DueIndex {
         for slot in 0..slots {
             moments.push(None)?;
         }
-        Ok(DueIndex {
-            moments,
-            earliest: 0,
-        })
-    }
-
-    /// The moment of a transfer set, if it has one.
-    pub fn moment(&self, slot: u32) -> Option<u64>
-        requires { slot < length self.now }
-        ensures { result ≡ next_at self.now slot }
-    {
-        self.moments[slot as usize]
+        let firsts = no_firsts(alloc, slots)?;
+        Ok(DueIndex { moments, firsts })
     }
 
     /// Whether the moment of a transfer set has come where the clock stands at `now`.
@@ -60,73 +50,35 @@ impl DueIndex {
         has_come(self.moments[slot as usize], now)
     }
 
-    /// Gives a transfer set this moment, or none.
+    /// Gives a transfer set this moment, or none. Its work grows with the number of levels of a
+    /// tree over the transfer sets.
     pub fn set(&mut self, slot: u32, moment: Option<u64>)
         requires { slot < length self.old }
         ensures { self.new ≡ slice_set self.old slot moment }
     {
-        if let Some(moment) = moment {
-            self.earliest = self.earliest.min(moment);
-        }
         self.moments[slot as usize] = moment;
+        let parent = (self.firsts.len() + slot as usize) / 2;
+        renew(&self.moments, &mut self.firsts, parent);
     }
 
-    /// False only where the moment of no transfer set has come while the clock stands at `now`. It
-    /// looks at none of them.
-    pub fn may_have_come(&self, now: u64) -> bool
-        ensures { result ≡ false → HaveNotCome self.now now 0 (length self.now) }
+    /// Whether the moment of any transfer set has come where the clock stands at `now`. It looks at
+    /// none of them.
+    pub fn has_any_come(&self, now: u64) -> bool
+        ensures none { result ≡ false → HaveNotCome self.now now 0 (length self.now) }
+        ensures some { result ≡ true → HasAnyCome self.now now }
     {
-        self.earliest <= now
-    }
-
-    /// Notes the first moment, so that `may_have_come` is false until then: behind calls of `set`
-    /// it may be true from an earlier one on.
-    pub fn settle(&mut self)
-        ensures { self.new ≡ self.old }
-    {
-        self.earliest = match self.first() {
-            Some((moment, _)) => moment,
-            None => u64::MAX,
-        };
+        match self.first() {
+            Some((moment, _)) => moment <= now,
+            None => false,
+        }
     }
 
     /// The first moment with its transfer set, the lowest of several; none where no transfer set
-    /// has a moment.
+    /// has a moment. It looks at none of them.
     pub fn first(&self) -> Option<(u64, u32)>
         ensures { IsFirst self.now result }
     {
-        let mut first = None;
-        for slot in 0..self.moments.len() as u32 {
-            first = first_with(first, self.moments[slot as usize], slot);
-        }
-        first
-    }
-
-    /// The lowest transfer set, from this number on, whose moment isn't after `to`; none where the
-    /// moment of no transfer set from there on is.
-    pub fn next_until(&self, after: u32, to: u64) -> Option<u32>
-        ensures { IsNextCome self.now after to result }
-    {
-        for slot in after..self.moments.len() as u32 {
-            if has_come(self.moments[slot as usize], to) {
-                return Some(slot);
-            }
-        }
-        None
-    }
-}
-
-/// The first moment of the transfer sets below one, and that one's moment: the first of all these.
-fn first_with(first: Option<(u64, u32)>, moment: Option<u64>, slot: u32) -> Option<(u64, u32)>
-    ensures { (index : List (Option ℕ)) → next_at index slot ≡ moment
-        → IsFirstOf index slot first → IsFirstOf index (slot + 1) result }
-{
-    let Some(moment) = moment else {
-        return first;
-    };
-    match first {
-        Some((least, _)) if least <= moment => first,
-        _ => Some((moment, slot)),
+        first_in(&self.moments, &self.firsts)
     }
 }
 

@@ -4,6 +4,7 @@
 
 mod bank;
 mod due_index;
+mod due_tree;
 mod laws;
 mod looks;
 mod next_due;

@@ -7,6 +7,9 @@ use std::marker::Model;
 /// Where a number of looks stands still.
 pub const LOOK_LIMIT: u64 = u64::MAX;
 
+// Clauses cite this limit, so that it stands here as a number too.
+const _: () = prove!(LOOK_LIMIT == 18_446_744_073_709_551_615);
+
 /// How often transfer sets were read or changed: a look is all that is done with one of them in one
 /// pass over them.
 #[derive(Drop)]

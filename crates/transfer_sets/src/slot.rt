@@ -21,6 +21,9 @@ use tase_points::PointValue;
 /// How many noted changes one report tells at the most, and how many make one due.
 pub const NOTED_LIMIT: usize = 500;
 
+// Clauses cite this limit, so that it stands here as a number too.
+const _: () = prove!(NOTED_LIMIT == 500);
+
 /// A transfer set: what is wished of it, and what it knows of the time and of changes. All moments
 /// are in milliseconds since 1970.
 #[derive(Debug, Drop)]

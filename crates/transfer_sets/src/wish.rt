@@ -23,7 +23,17 @@ pub const EXTERNAL: u8 = 8;
 /// The largest number of a wish, but for its event code.
 pub const NUMBER_LIMIT: u32 = 2147483647;
 
-// Definitions cite this limit, so that it stands here as a number too.
+// Definitions cite these numbers, so that each stands here once more.
+const _: () = prove!(INTERVAL == 128);
+
+const _: () = prove!(INTEGRITY == 64);
+
+const _: () = prove!(CHANGE == 32);
+
+const _: () = prove!(OPERATOR == 16);
+
+const _: () = prove!(EXTERNAL == 8);
+
 const _: () = prove!(NUMBER_LIMIT == 2_147_483_647);
 
 /// What a peer writes to a transfer set. All times are in seconds.
