@@ -1,21 +1,24 @@
 -- Words without blanks, joined by spaces, are the words of the line.
-use Rattle.std.proofs.Common.{◌≡◌, ◌≢◌, ℕ, ◌-◌, ◌<◌, ◌≤◌, Bool, true, false, not, ◌&&◌, ◌||◌}
-use Rattle.std.proofs.Common.{◌==◌, cond, eqb, leb, List, [], ◌∷◌, ◌++◌, length, filter, get_or}
-use Rattle.std.proofs.Common.{Some, None, refl, sym, ap, ◌∙◌, arith, append_assoc}
-use Rattle.std.specs.List.{slice_split, onto_first, list_any, list_all}
+use Rattle.std.proofs.Common.{◌≡◌, ◌≢◌, ℕ, suc, ◌-◌, ◌<◌, ◌≤◌, Bool, true, false, not, ◌&&◌}
+use Rattle.std.proofs.Common.{◌||◌, ◌==◌, cond, eqb, leb, List, [], ◌∷◌, ◌++◌, length, filter}
+use Rattle.std.proofs.Common.{get_or, All, Some, None, refl, sym, ap, ◌∙◌, arith}
+use Rattle.std.specs.List.{slice_split, list_all}
 use Rattle.std.specs.Char.{is_ascii_alphabetic, is_ascii_alphanumeric, is_ascii_digit}
 use Rattle.std.specs.Str.{all_ascii_digits}
-use Rattle.std.proofs.lemmas.Bool.{cond-true, cond-false, and_parts, and_from, leb-true, eq-eqb}
+use Rattle.std.specs.Str.Lines.{lines, lines_of_parts, strip_carriage_return}
+use Rattle.std.proofs.Math.Seq.{get_or-append_right}
+use Rattle.std.proofs.lemmas.Bool.{cond-true, cond-false, and_parts, and_from, leb-true, le-leb}
 use Rattle.std.proofs.lemmas.Bool.{ne_eqb, false≢true}
 use Rattle.std.proofs.lemmas.Bool.Decides.{nat_tests}
-use Rattle.std.proofs.lemmas.List.{length_push}
-use Rattle.std.proofs.lemmas.List.Folds.{list_any-append}
+use Rattle.std.proofs.lemmas.List.{length-append, get_or_append_left}
+use Rattle.std.proofs.lemmas.List.Elements.{All-nil, All-cons}
+use Rattle.std.proofs.lemmas.List.Folds.{list_any_none, list_all-append}
+use Rattle.std.proofs.lemmas.List.Splits.{slice_split_at, slice_split_none, length-slice_split}
 use Rattle.plain_text.specs.Words.{is_word, is_spaced, words_in}
 use Rattle.plain_text.specs.Numbers.{is_number, number_in}
 use Rattle.bilateral.specs.Words.Words.{is_name, is_plain_name, is_identifier}
-use Rattle.std.specs.Str.Lines.{lines, lines_of_parts, strip_carriage_return}
-use Rattle.std.proofs.lemmas.List.Splits.{length-slice_split}
 use Rattle.bilateral.specs.Writing.{spaced, is_solid}
+use Rattle.bilateral.proofs.OfWords.VisibleWords.{list_all-weaker}
 
 abbrev pub clean : List ℕ → Bool
 clean word = list_all (λ octet. leb 33 octet) word
@@ -29,32 +32,25 @@ abbrev pub AreClean : List (List ℕ) → Type 0
 AreClean [] = Unit {0}
 AreClean (word ∷ more) = IsClean word × AreClean more
 
-no_blank : (c x : ℕ) → c < 33 → leb 33 x ≡ true → eqb x c ≡ false
-no_blank c x low is =
-    let above : 33 ≤ x = leb-true 33 x is in
-    let apart : x ≢ c = λ same. absurd (omega (arith, same)) in ne_eqb x c apart
+-- octets from a number on have none below it
+none_is : (floor c : ℕ) → c < floor → (xs : List ℕ) → list_all (λ x. leb floor x) xs ≡ true
+    → All (λ x. eqb x c ≡ false) xs
+none_is floor c low [] is = All-nil (λ x. eqb x c ≡ false)
+none_is floor c low (x ∷ xs) is =
+    let parts = and_parts (leb floor x) (list_all (λ x. leb floor x) xs) is in
+    let above : floor ≤ x = leb-true floor x parts.0 in
+    let apart : x ≢ c = λ same. absurd (omega (arith, same)) in
+    All-cons (λ x. eqb x c ≡ false) x xs (ne_eqb x c apart) (none_is floor c low xs parts.1)
 
-split_more : (c : ℕ) → c < 33 → (word rest : List ℕ) → clean word ≡ true
-    → slice_split (λ x. eqb x c) (word ++ c ∷ rest) ≡ word ∷ slice_split (λ x. eqb x c) rest
-split_more c low [] rest is = cond-true (eqb c c) _ _ (eq-eqb c c refl)
-split_more c low (x ∷ word) rest is =
-    let parts = and_parts (leb 33 x) (clean word) is in
-    cond-false (eqb x c) _ _ (no_blank c x low parts.0)
-    ∙ ap (onto_first x) (split_more c low word rest parts.1)
-
-split_one : (c : ℕ) → c < 33 → (word : List ℕ) → clean word ≡ true
-    → slice_split (λ x. eqb x c) word ≡ word ∷ []
-split_one c low [] is = refl
-split_one c low (x ∷ word) is =
-    let parts = and_parts (leb 33 x) (clean word) is in
-    cond-false (eqb x c) _ _ (no_blank c x low parts.0)
-    ∙ ap (onto_first x) (split_one c low word parts.1)
+no_space : (word : List ℕ) → clean word ≡ true → All (λ x. eqb x 32 ≡ false) word
+no_space word is = none_is 33 32 (omega arith) word is
 
 split_spaced : (word : List ℕ) (more : List (List ℕ)) → IsClean word → AreClean more
     → slice_split (λ x. eqb x 32) (spaced (word ∷ more)) ≡ word ∷ more
-split_spaced word [] is are = split_one 32 (omega arith) word is.octets
+split_spaced word [] is are =
+    slice_split_none (λ x. eqb x 32) word (no_space word is.octets)
 split_spaced word (next ∷ more) is are =
-    split_more 32 (omega arith) word (spaced (next ∷ more)) is.octets
+    slice_split_at (λ x. eqb x 32) word 32 (spaced (next ∷ more)) (no_space word is.octets) refl
     ∙ ap (λ ws. word ∷ ws) (split_spaced next more are.0 are.1)
 
 keep_word : (word : List ℕ) (more : List (List ℕ)) → 0 < length word
@@ -67,80 +63,47 @@ keep_words [] are = refl
 keep_words (word ∷ more) are =
     keep_word word more are.0.some ∙ ap (λ ws. word ∷ ws) (keep_words more are.1)
 
-no_tab : (word : List ℕ) → clean word ≡ true → list_any (λ octet. eqb octet 9) word ≡ false
-no_tab [] is = refl
-no_tab (x ∷ word) is =
-    let parts = and_parts (leb 33 x) (clean word) is in
-    ap (λ b. b || list_any (λ octet. eqb octet 9) word) (no_blank 9 x (omega arith) parts.0)
-    ∙ no_tab word parts.1
+not_below : (x : ℕ) → leb 33 x ≡ true → leb 32 x ≡ true
+not_below x is = le-leb 32 x (omega (arith, leb-true 33 x is))
 
-no_tab_spaced : (word : List ℕ) (more : List (List ℕ)) → IsClean word → AreClean more
-    → list_any (λ octet. eqb octet 9) (spaced (word ∷ more)) ≡ false
-no_tab_spaced word [] is are = no_tab word is.octets
-no_tab_spaced word (next ∷ more) is are =
-    list_any-append (λ octet. eqb octet 9) word (32 ∷ spaced (next ∷ more))
-    ∙ ap (λ b. b || list_any (λ octet. eqb octet 9) (spaced (next ∷ more)))
-    (no_tab word is.octets)
-    ∙ no_tab_spaced next more are.0 are.1
+-- a line has no octet below a space
+line_octets : (word : List ℕ) (more : List (List ℕ)) → IsClean word → AreClean more
+    → list_all (λ x. leb 32 x) (spaced (word ∷ more)) ≡ true
+line_octets word [] is are =
+    list_all-weaker (λ x. leb 33 x) (λ x. leb 32 x) not_below word is.octets
+line_octets word (next ∷ more) is are =
+    list_all-append (λ x. leb 32 x) word (32 ∷ spaced (next ∷ more))
+    ∙ and_from (list_all (λ x. leb 32 x) word) (list_all (λ x. leb 32 x) (spaced (next ∷ more)))
+    (list_all-weaker (λ x. leb 33 x) (λ x. leb 32 x) not_below word is.octets)
+    (line_octets next more are.0 are.1)
 
-first_of_word : (word : List ℕ) (more : List (List ℕ)) → IsClean word
+line_some : (word : List ℕ) (more : List (List ℕ)) → IsClean word
+    → 0 < length (spaced (word ∷ more))
+line_some word [] is = is.some
+line_some word (next ∷ more) is =
+    omega (arith, length-append word (32 ∷ spaced (next ∷ more)), is.some)
+
+first_of_line : (word : List ℕ) (more : List (List ℕ)) → IsClean word
     → eqb (get_or (spaced (word ∷ more)) 0 0) 32 ≡ false
-first_of_word [] more is = absurd (omega (arith, is.some))
-first_of_word (x ∷ word) [] is =
-    no_blank 32 x (omega arith) (and_parts (leb 33 x) (clean word) is.octets).0
-first_of_word (x ∷ word) (next ∷ more) is =
-    no_blank 32 x (omega arith) (and_parts (leb 33 x) (clean word) is.octets).0
+first_of_line word [] is = no_space word is.octets 0 0 is.some
+first_of_line word (next ∷ more) is =
+    ap (λ x. eqb x 32) (get_or_append_left word (32 ∷ spaced (next ∷ more)) 0 0 is.some)
+    ∙ no_space word is.octets 0 0 is.some
 
--- a line by its last octet
-record Ends (line : List ℕ) : Type 0 where
-  front : List ℕ
-  last : ℕ
-  whole : line ≡ front ++ last ∷ []
-  octet : leb 33 last ≡ true
-
-ends_word : (word : List ℕ) → IsClean word → Ends word
-ends_word [] is = absurd (omega (arith, is.some))
-ends_word (x ∷ []) is = record {
-  front = [];
-  last = x;
-  whole = refl;
-  octet = (and_parts (leb 33 x) true is.octets).0;
-}
-ends_word (x ∷ y ∷ word) is =
-    let parts = and_parts (leb 33 x) (clean (y ∷ word)) is.octets in
-    let end = ends_word (y ∷ word) (record { some = omega arith; octets = parts.1 }) in
-    record {
-      front = x ∷ end.front;
-      last = end.last;
-      whole = ap (λ l. x ∷ l) end.whole;
-      octet = end.octet;
-    }
-
-ends_spaced : (word : List ℕ) (more : List (List ℕ)) → IsClean word → AreClean more
-    → Ends (spaced (word ∷ more))
-ends_spaced word [] is are = ends_word word is
-ends_spaced word (next ∷ more) is are =
-    let end = ends_spaced next more are.0 are.1 in
-    record {
-      front = word ++ 32 ∷ end.front;
-      last = end.last;
-      whole = ap (λ l. word ++ 32 ∷ l) end.whole
-          ∙ sym (append_assoc word (32 ∷ end.front) (end.last ∷ []));
-      octet = end.octet;
-    }
-
-last_at : (front : List ℕ) (x d : ℕ) → get_or (front ++ x ∷ []) (length front) d ≡ x
-last_at [] x d = refl
-last_at (y ∷ front) x d = last_at front x d
-
-last_of_line : (line : List ℕ) → Ends line → eqb (get_or line (length line - 1) 0) 32 ≡ false
-last_of_line line end =
-    let size : length (end.front ++ end.last ∷ []) - 1
-    ≡ length end.front = omega (arith, length_push end.front end.last) in
-    ap (λ l. eqb (get_or l (length l - 1) 0) 32) end.whole
-    ∙ ap (λ n. eqb (get_or (end.front ++ end.last ∷ []) n 0) 32) size
-    ∙ ap (λ x. eqb x 32) (last_at end.front end.last 0)
-    ∙ no_blank 32 end.last (omega arith) end.octet
+last_of_line : (word : List ℕ) (more : List (List ℕ)) → IsClean word → AreClean more
+    → eqb (get_or (spaced (word ∷ more)) (length (spaced (word ∷ more)) - 1) 0) 32 ≡ false
+last_of_line word [] is are =
+    no_space word is.octets (length word - 1) 0 (omega (arith, is.some))
+last_of_line word (next ∷ more) is are =
+    let rest = spaced (next ∷ more) in
+    let n = length (word ++ 32 ∷ rest) - 1 in
+    let size = length-append word (32 ∷ rest) in
+    let behind : n - length word ≡ suc (length rest - 1) =
+    omega (arith, size, line_some next more are.0) in
+    ap (λ x. eqb x 32)
+    (get_or-append_right word (32 ∷ rest) n 0 (omega (arith, size))
+    ∙ ap (λ k. get_or (32 ∷ rest) k 0) behind)
+    ∙ last_of_line next more are.0 are.1
 
 all_not : (a b c : Bool) → a ≡ false → b ≡ false → c ≡ false → (not a && not b && not c) ≡ true
 all_not false false false first second third = refl
@@ -149,21 +112,21 @@ all_not false true c first second third = absurd (false≢true (sym second))
 all_not false false true first second third = absurd (false≢true (sym third))
 
 -- the words of clean words with a space between each two
-pub words_of_spaced : (word : List ℕ) (more : List (List ℕ)) → IsClean word → AreClean more
+words_of_line : (word : List ℕ) (more : List (List ℕ)) → IsClean word → AreClean more
     → words_in (spaced (word ∷ more)) ≡ Some (word ∷ more)
-words_of_spaced word more is are =
+words_of_line word more is are =
     cond-true (is_spaced (spaced (word ∷ more))) _ _
-    (all_not _ _ _ (no_tab_spaced word more is are) (first_of_word word more is)
-    (last_of_line (spaced (word ∷ more)) (ends_spaced word more is are)))
+    (all_not _ _ _
+    (list_any_none (λ x. eqb x 9) (spaced (word ∷ more))
+    (none_is 32 9 (omega arith) (spaced (word ∷ more)) (line_octets word more is are)))
+    (first_of_line word more is) (last_of_line word more is are))
     ∙ ap Some
     (ap (filter is_word) (split_spaced word more is are) ∙ keep_words (word ∷ more) (is, are))
 
-all-weaker : (p q : ℕ → Bool) → ((x : ℕ) → p x ≡ true → q x ≡ true) → (xs : List ℕ)
-    → list_all p xs ≡ true → list_all q xs ≡ true
-all-weaker p q weaker [] each = refl
-all-weaker p q weaker (x ∷ xs) each =
-    let parts = and_parts (p x) (list_all p xs) each in
-    and_from (q x) (list_all q xs) (weaker x parts.0) (all-weaker p q weaker xs parts.1)
+pub words_of_spaced : (words : List (List ℕ)) → 0 < length words → AreClean words
+    → words_in (spaced words) ≡ Some words
+words_of_spaced [] some are = absurd (omega arith)
+words_of_spaced (word ∷ more) some are = words_of_line word more are.0 are.1
 
 clean_in_names : (octet : ℕ) → (is_ascii_alphanumeric octet || (octet == 95)) ≡ true
     → leb 33 octet ≡ true
@@ -188,7 +151,7 @@ clean_plain_name (first ∷ more) named =
     record {
       some = omega arith;
       octets = and_from (leb 33 first) (clean more) (clean_letter first front.0)
-          (all-weaker _ (λ octet. leb 33 octet) clean_in_names more front.1);
+          (list_all-weaker _ (λ octet. leb 33 octet) clean_in_names more front.1);
     }
 
 pub clean_name : (word : List ℕ) → is_name word ≡ true → IsClean word
@@ -204,7 +167,7 @@ clean_identifier word identifier =
     let front = and_parts _ _ parts.0 in
     record {
       some = nonempty word front.0;
-      octets = all-weaker _ (λ octet. leb 33 octet) clean_in_identifiers word parts.1;
+      octets = list_all-weaker _ (λ octet. leb 33 octet) clean_in_identifiers word parts.1;
     }
 
 clean_digits : (octets : List ℕ) → all_ascii_digits octets ≡ true → clean octets ≡ true
@@ -242,57 +205,23 @@ clean_solid word solid =
     let parts = and_parts (not (length word == 0)) (clean word) solid in
     record { some = nonempty word parts.0; octets = parts.1 }
 
--- a line without blanks at its ends that ends in LF is the first line of a text
-strip_nothing : (line : List ℕ) → Ends line → strip_carriage_return line ≡ line
-strip_nothing line end =
-    cond-false (eqb (get_or line (length line - 1) 0) 13) _ _
-    (let size : length (end.front ++ end.last ∷ []) - 1
-    ≡ length end.front = omega (arith, length_push end.front end.last) in
-    ap (λ l. eqb (get_or l (length l - 1) 0) 13) end.whole
-    ∙ ap (λ n. eqb (get_or (end.front ++ end.last ∷ []) n 0) 13) size
-    ∙ ap (λ x. eqb x 13) (last_at end.front end.last 0)
-    ∙ no_blank 13 end.last (omega arith) end.octet)
-
-split_line : (word : List ℕ) (more : List (List ℕ)) (rest : List ℕ) → IsClean word
-    → AreClean more
-    → slice_split (λ x. eqb x 10) (spaced (word ∷ more) ++ 10 ∷ rest)
-    ≡ spaced (word ∷ more) ∷ slice_split (λ x. eqb x 10) rest
-split_line word [] rest is are = split_more 10 (omega arith) word rest is.octets
-split_line word (next ∷ more) rest is are =
-    ap (slice_split (λ x. eqb x 10)) (append_assoc word (32 ∷ spaced (next ∷ more)) (10 ∷ rest))
-    ∙ pass_word 10 (omega arith) word (32 ∷ (spaced (next ∷ more) ++ 10 ∷ rest)) is.octets
-    ∙ ap (λ parts. onto_word word (onto_first 32 parts)) (split_line next more rest are.0 are.1)
-    ∙ onto_all word (32 ∷ spaced (next ∷ more)) (slice_split (λ x. eqb x 10) rest)
-  where
-    onto_word : List ℕ → List (List ℕ) → List (List ℕ)
-    onto_word [] parts = parts
-    onto_word (x ∷ word) parts = onto_first x (onto_word word parts)
-
-    pass_word : (c : ℕ) → c < 33 → (word rest : List ℕ) → clean word ≡ true
-        → slice_split (λ x. eqb x c) (word ++ rest)
-        ≡ onto_word word (slice_split (λ x. eqb x c) rest)
-    pass_word c low [] rest is = refl
-    pass_word c low (x ∷ word) rest is =
-        let parts = and_parts (leb 33 x) (clean word) is in
-        cond-false (eqb x c) _ _ (no_blank c x low parts.0)
-        ∙ ap (onto_first x) (pass_word c low word rest parts.1)
-
-    onto_all : (word line : List ℕ) (parts : List (List ℕ))
-        → onto_word word (line ∷ parts) ≡ (word ++ line) ∷ parts
-    onto_all [] line parts = refl
-    onto_all (x ∷ word) line parts = ap (onto_first x) (onto_all word line parts)
-
 parts_more : (line : List ℕ) (parts : List (List ℕ)) → 0 < length parts
     → lines_of_parts (line ∷ parts) ≡ strip_carriage_return line ∷ lines_of_parts parts
 parts_more line [] some = absurd (omega arith)
 parts_more line (next ∷ more) some = refl
 
-pub lines_of_spaced : (word : List ℕ) (more : List (List ℕ)) (rest : List ℕ) → IsClean word
-    → AreClean more
-    → lines (spaced (word ∷ more) ++ 10 ∷ rest) ≡ spaced (word ∷ more) ∷ lines rest
-lines_of_spaced word more rest is are =
-    ap lines_of_parts (split_line word more rest is are)
-    ∙ parts_more (spaced (word ∷ more)) (slice_split (λ x. eqb x 10) rest)
+-- a line that ends in LF is the first line of a text
+pub lines_of_spaced : (words : List (List ℕ)) (rest : List ℕ) → 0 < length words
+    → AreClean words → lines (spaced words ++ 10 ∷ rest) ≡ spaced words ∷ lines rest
+lines_of_spaced [] rest some are = absurd (omega arith)
+lines_of_spaced (word ∷ more) rest some are =
+    let line = spaced (word ∷ more) in
+    let octets = line_octets word more are.0 are.1 in
+    ap lines_of_parts
+    (slice_split_at (λ x. eqb x 10) line 10 rest (none_is 32 10 (omega arith) line octets) refl)
+    ∙ parts_more line (slice_split (λ x. eqb x 10) rest)
     (omega (arith, length-slice_split (λ x. eqb x 10) rest))
     ∙ ap (λ l. l ∷ lines rest)
-    (strip_nothing (spaced (word ∷ more)) (ends_spaced word more is are))
+    (cond-false (eqb (get_or line (length line - 1) 0) 13) _ _
+    (none_is 32 13 (omega arith) line octets (length line - 1) 0
+    (omega (arith, line_some word more are.0))))

@@ -10,6 +10,9 @@ pub mod Lasts
 pub mod Told
 pub mod Keyed
 pub mod Spelled
+pub mod LawfulLines
+pub mod LawfulRows
+pub mod RowNames
 mod Worked
 pub mod CleanWords
 pub mod TitleWords

@@ -11,7 +11,7 @@ use Rattle.std.specs.Str.Lines.{lines}
 use Rattle.std.proofs.lemmas.Bool.{cond-true, and_parts, and_from, leb-true, eqb-true}
 use Rattle.std.proofs.lemmas.Bool.{le-leb}
 use Rattle.plain_text.specs.Lines.{is_skipped}
-use Rattle.plain_text.specs.Words.{words_in, each_in}
+use Rattle.plain_text.specs.Words.{each_in}
 use Rattle.plain_text.specs.Numbers.{number_in, integer_of_word, if_passes, negative}
 use Rattle.plain_text.proofs.Decimal.{number_in-of_decimal}
 use Rattle.tase_points.specs.declared.kind.Kind.{Kind}
@@ -20,11 +20,11 @@ use Rattle.tase_points.specs.declared.layout.Component.{Component}
 use Rattle.tase_points.specs.declared.layout.Component.TheVariants.{Value, Time, Millis, Flags, Cov}
 use Rattle.sbo_device.specs.declared.kind.CommandKind.{CommandKind}
 use Rattle.sbo_device.specs.declared.kind.CommandKind.TheVariants.{Command, Setpoint}
-use Rattle.bilateral.specs.Words.Words.{is_name, is_identifier, kind_in, whole_scope_in, component_in}
-use Rattle.bilateral.specs.Words.Words.{layout_in, layout_from, is_distinct}
+use Rattle.bilateral.specs.Words.Words.{is_name, is_identifier, kind_in, whole_scope_in}
+use Rattle.bilateral.specs.Words.Words.{component_in, layout_in, layout_from, is_distinct}
 use Rattle.bilateral.specs.Words.Words.{limit_in, limit_of}
-use Rattle.bilateral.specs.Words.Devices.{short_in, span_in, natural_of, range_in, range_of, form_in}
-use Rattle.bilateral.specs.Words.Devices.{order_in, is_short, is_range}
+use Rattle.bilateral.specs.Words.Devices.{short_in, span_in, natural_of, range_in, range_of}
+use Rattle.bilateral.specs.Words.Devices.{form_in, order_in, is_short, is_range}
 use Rattle.bilateral.specs.declared.line.TableLine.{TableLine}
 use Rattle.bilateral.specs.declared.line.TableLine.TheVariants.{Point, Device, Peer, Slots, Sets}
 use Rattle.bilateral.specs.declared.line.TableLine.TheVariants.{Pending, See, Control, Variant}
@@ -35,7 +35,7 @@ use Rattle.bilateral.specs.declared.rows.TheConstants.{SLOT_LIMIT, SET_LIMIT}
 use Rattle.sbo_device.specs.declared.device.TheConstants.{SPAN_LIMIT}
 use Rattle.bilateral.specs.declared.rows.TheConstants.{PENDING_LEAST, PENDING_LIMIT}
 use Rattle.bilateral.specs.Lines.{line_in, table_line_of, form_of, named_device, see_with}
-use Rattle.bilateral.specs.Writing.{spaced, kind_word, component_word, layout_word, title_word}
+use Rattle.bilateral.specs.Writing.{kind_word, component_word, layout_word, title_word}
 use Rattle.bilateral.specs.Writing.{command_words, mode_words, scope_word, tag_words, line_words}
 use Rattle.bilateral.specs.Writing.{line_text, empty_table, IsWritableLine, AreWritable, lines_text}
 use Rattle.bilateral.proofs.CleanWords.{IsClean, AreClean, clean, words_of_spaced, clean_name}
@@ -319,125 +319,78 @@ tag_clean : (tag : Bool) → AreClean (tag_words tag)
 tag_clean true = (word_clean _ (omega arith) refl, tt)
 tag_clean false = tt
 
--- a line's first word and the others
-record Written (line : TableLine) : Type 0 where
-  first : List ℕ
-  more : List (List ℕ)
-  words : line_words line ≡ first ∷ more
-  is : IsClean first
-  are : AreClean more
-  told : is_skipped (spaced (first ∷ more)) ≡ false
+limit_clean : (first : List ℕ) (n : ℕ) → IsClean first → n < 2 ^ 64
+    → AreClean (first ∷ decimal n ∷ [])
+limit_clean first n is small = (is, (number_clean n small, tt))
 
-limit_written : (line : TableLine) (first : List ℕ) (n : ℕ) → n < 2 ^ 64
-    → line_words line ≡ first ∷ decimal n ∷ [] → IsClean first
-    → is_skipped (spaced (first ∷ decimal n ∷ [])) ≡ false → Written line
-limit_written line first n small words is told = record {
-  first = first;
-  more = decimal n ∷ [];
-  words = words;
-  is = is;
-  are = (number_clean n small, tt);
-  told = told;
-}
-
-written : (line : TableLine) → IsWritableLine line → Written line
-written (Point row) fits = record {
-  first = codes "point";
-  more = row.name ∷ kind_word row.kind ∷ [];
-  words = refl;
-  is = word_clean _ (omega arith) refl;
-  are = (clean_name row.name fits, (kind_clean row.kind, tt));
-  told = refl;
-}
-written (Device row) fits = record {
-  first = codes "device";
-  more = row.name ∷ (command_words row.kind ++ mode_words row);
-  words = refl;
-  is = word_clean _ (omega arith) refl;
-  are = (
+-- the words of a line have no blanks
+line_clean : (line : TableLine) → IsWritableLine line → AreClean (line_words line)
+line_clean (Point row) fits =
+    (word_clean _ (omega arith) refl, (clean_name row.name fits, (kind_clean row.kind, tt)))
+line_clean (Device row) fits = (
+  word_clean _ (omega arith) refl,
+  (
     clean_name row.name fits.0,
     command_clean row.kind (mode_words row) fits.1.range
         (mode_clean row.direct row.checkback row.span fits.1.short fits.2),
-  );
-  told = refl;
-}
-written (Peer table) fits = record {
-  first = codes "peer";
-  more = table.key ∷ title_word table.title ∷ table.domain ∷ table.id ∷ [];
-  words = refl;
-  is = word_clean _ (omega arith) refl;
-  are = (
+  ),
+)
+line_clean (Peer table) fits = (
+  word_clean _ (omega arith) refl,
+  (
     clean_identifier table.key fits.0,
     (
       clean_solid (title_word table.title) (title_solid table.title fits.4),
       (clean_identifier table.domain fits.1, (clean_identifier table.id fits.2, tt)),
     ),
-  );
-  told = refl;
-}
-written (Variant key domain id) fits = record {
-  first = codes "variant";
-  more = key ∷ domain ∷ id ∷ [];
-  words = refl;
-  is = word_clean _ (omega arith) refl;
-  are = (
+  ),
+)
+line_clean (Variant key domain id) fits = (
+  word_clean _ (omega arith) refl,
+  (
     clean_identifier key fits.0,
     (clean_identifier domain fits.1, (clean_identifier id fits.2, tt)),
-  );
-  told = refl;
-}
-written (Slots None) fits = absurd fits
-written (Slots (Some n)) fits =
-    limit_written (Slots (Some n)) (codes "slots") n (omega (arith, fits.1)) refl
-    (word_clean _ (omega arith) refl) refl
-written (Sets None) fits = absurd fits
-written (Sets (Some n)) fits =
-    limit_written (Sets (Some n)) (codes "sets") n (omega (arith, fits.1)) refl
-    (word_clean _ (omega arith) refl) refl
-written (Pending None) fits = absurd fits
-written (Pending (Some n)) fits =
-    limit_written (Pending (Some n)) (codes "pending") n (omega (arith, fits.1)) refl
-    (word_clean _ (omega arith) refl) refl
-written (See name vmd None) fits = absurd fits.1
-written (See name vmd (Some layout)) fits = record {
-  first = codes "see";
-  more = name ∷ scope_word vmd ∷ layout_word layout ∷ [];
-  words = refl;
-  is = word_clean _ (omega arith) refl;
-  are = (clean_name name fits.0, (scope_clean vmd, (layout_clean layout fits.1.0, tt)));
-  told = refl;
-}
-written (Control name tag) fits = record {
-  first = codes "control";
-  more = name ∷ tag_words tag;
-  words = refl;
-  is = word_clean _ (omega arith) refl;
-  are = (clean_name name fits, tag_clean tag);
-  told = refl;
-}
+  ),
+)
+line_clean (Slots None) fits = absurd fits
+line_clean (Slots (Some n)) fits =
+    limit_clean (codes "slots") n (word_clean _ (omega arith) refl) (omega (arith, fits.1))
+line_clean (Sets None) fits = absurd fits
+line_clean (Sets (Some n)) fits =
+    limit_clean (codes "sets") n (word_clean _ (omega arith) refl) (omega (arith, fits.1))
+line_clean (Pending None) fits = absurd fits
+line_clean (Pending (Some n)) fits =
+    limit_clean (codes "pending") n (word_clean _ (omega arith) refl) (omega (arith, fits.1))
+line_clean (See name vmd None) fits = absurd fits.1
+line_clean (See name vmd (Some layout)) fits = (
+  word_clean _ (omega arith) refl,
+  (clean_name name fits.0, (scope_clean vmd, (layout_clean layout fits.1.0, tt))),
+)
+line_clean (Control name tag) fits =
+    (word_clean _ (omega arith) refl, (clean_name name fits, tag_clean tag))
+
+-- a line has words, and is none that is skipped
+begins : (line : TableLine)
+    → (0 < length (line_words line)) × (is_skipped (line_text line) ≡ false)
+begins (Point row) = (omega arith, refl)
+begins (Device row) = (omega arith, refl)
+begins (Peer table) = (omega arith, refl)
+begins (Variant key domain id) = (omega arith, refl)
+begins (Slots number) = (omega arith, refl)
+begins (Sets number) = (omega arith, refl)
+begins (Pending number) = (omega arith, refl)
+begins (See name vmd layout) = (omega arith, refl)
+begins (Control name tag) = (omega arith, refl)
 
 -- the written form of a line is read as this line
 pub line_read : (line : TableLine) → IsWritableLine line → line_in (line_text line) ≡ Some line
 line_read line fits =
-    let w = written line fits in
-    ap (λ ws. option_and_then table_line_of (words_in (spaced ws))) w.words
-    ∙ ap (option_and_then table_line_of) (words_of_spaced w.first w.more w.is w.are)
-    ∙ ap table_line_of (sym w.words) ∙ words_read line fits
+    ap (option_and_then table_line_of)
+    (words_of_spaced (line_words line) (begins line).0 (line_clean line fits))
+    ∙ words_read line fits
 
 abbrev is_told : List ℕ → Bool
 is_told line = not (is_skipped line)
-
-text_lines : (line : TableLine) → IsWritableLine line → (rest : List ℕ)
-    → lines (line_text line ++ 10 ∷ rest) ≡ line_text line ∷ lines rest
-text_lines line fits rest =
-    let w = written line fits in
-    ap (λ ws. lines (spaced ws ++ 10 ∷ rest)) w.words
-    ∙ lines_of_spaced w.first w.more rest w.is w.are
-    ∙ ap (λ ws. spaced ws ∷ lines rest) (sym w.words)
-
-text_told : (line : TableLine) → IsWritableLine line → is_skipped (line_text line) ≡ false
-text_told line fits =
-    let w = written line fits in ap (λ ws. is_skipped (spaced ws)) w.words ∙ w.told
 
 -- the text of lines is read as these lines
 pub lines_read : (said : List TableLine) → AreWritable said
@@ -447,11 +400,12 @@ lines_read (line ∷ more) fits =
     ap (λ t. each_in line_in (filter is_told (lines t)))
     (append_assoc (line_text line) (10 ∷ []) (lines_text more))
     ∙ ap (λ ls. each_in line_in (filter is_told ls))
-    (text_lines line fits.0 (lines_text more))
+    (lines_of_spaced (line_words line) (lines_text more) (begins line).0
+    (line_clean line fits.0))
     ∙ ap (λ s. each_in line_in
     (cond (not s) (line_text line ∷ filter is_told (lines (lines_text more)))
     (filter is_told (lines (lines_text more)))))
-    (text_told line fits.0)
+    (begins line).1
     ∙ ap (option_and_then
     (λ item. option_map (λ items. item ∷ items)
     (each_in line_in (filter is_told (lines (lines_text more)))))) (line_read line fits.0)

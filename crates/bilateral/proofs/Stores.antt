@@ -40,7 +40,7 @@ only_no_table : (v : ℕ) → get_or (no_table ∷ []) v no_table ≡ no_table
 only_no_table zero = refl
 only_no_table (suc v) = refl
 
-IsCentre-start : IsCentre (record { points = []; devices = []; tables = []; variants = [] })
+pub IsCentre-start : IsCentre (record { points = []; devices = []; tables = []; variants = [] })
 IsCentre-start = record {
   names = λ i j d before below. absurd (omega arith);
   named = λ k d below. absurd (omega arith);

@@ -22,7 +22,7 @@ pub mod words;
 pub use crate::words::{IDENTIFIER_LIMIT, NAME_LIMIT};
 pub use centre::{Centre, peer_of};
 pub use fault::{TableFault, TableWhy};
-pub use laws::{one_reading, written_tables_are_read};
+pub use laws::{names_stand_once, one_reading, read_tables_are_lawful, written_tables_are_read};
 pub use line::TableLine;
 pub use reading::read_centre;
 pub use rows::{

@@ -9,7 +9,7 @@ use Rattle.ber_values.specs.Visible.{IsVisible, is_visible_octet}
 use Rattle.bilateral.specs.declared.words.words.TheConstants.{NAME_LIMIT, IDENTIFIER_LIMIT}
 use Rattle.bilateral.specs.Words.Words.{is_name, is_plain_name, is_identifier}
 
-list_all-weaker : (p q : ℕ → Bool) → ((x : ℕ) → p x ≡ true → q x ≡ true) → (xs : List ℕ)
+pub list_all-weaker : (p q : ℕ → Bool) → ((x : ℕ) → p x ≡ true → q x ≡ true) → (xs : List ℕ)
     → list_all p xs ≡ true → list_all q xs ≡ true
 list_all-weaker p q weaker [] each = refl
 list_all-weaker p q weaker (x ∷ xs) each =
