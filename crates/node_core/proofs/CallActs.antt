@@ -15,12 +15,12 @@ use Rattle.tase_views.specs.Moves.{calls}
 use Rattle.tase_views.specs.Moves.{writes_of, acts_of_call}
 use Rattle.tase_views.specs.View.{own}
 use Rattle.tase_views.specs.Sets.{SetError}
-use Rattle.node_core.specs.declared.peer.Peer.{Peer}
-use Rattle.node_core.specs.SetsKept.{left_by}
-use Rattle.node_core.specs.SlotsKept.{all_read, all_written}
+use Rattle.node_core.specs.declared.node.peer.Peer.{Peer}
+use Rattle.node_core.specs.Slots.SetsKept.{left_by}
+use Rattle.node_core.specs.Slots.SlotsKept.{all_read, all_written}
 use Rattle.node_core.specs.PeerParts.{fault_in, kept_in, part_after, part_behind, IsLawfulAct}
 use Rattle.node_core.specs.PeerParts.{EachAct}
-use Rattle.node_core.specs.Shown.{IsCalm}
+use Rattle.node_core.specs.Replies.Shown.{IsCalm}
 
 each-append : (Q : Act → Type 0) (xs ys : List Act) → EachAct Q xs → EachAct Q ys
     → EachAct Q (xs ++ ys)

@@ -31,11 +31,11 @@ use Rattle.tase_views.proofs.OpenKeys.{among, without, open_of}
 use Rattle.tase_views.proofs.Seated.{orderly}
 use Rattle.tase_views.proofs.Holders.{IsGood, all_good, part_may, hold-seen}
 use Rattle.node_core.proofs.OfDevices.DevicesShown.{selectable, never_held}
-use Rattle.node_core.specs.declared.peer.Peer.{Peer}
+use Rattle.node_core.specs.declared.node.peer.Peer.{Peer}
 use Rattle.node_core.specs.PeerParts.{EachAct, IsPart}
 use Rattle.node_core.proofs.CallActs.{IsOpenless, openless_call}
 use Rattle.node_core.proofs.Seeing.{opens_in_view}
-use Rattle.node_core.proofs.AssociationSteps.{EndsNothing}
+use Rattle.node_core.proofs.OfSlots.AssociationSteps.{EndsNothing}
 
 -- ---- what is open was opened
 

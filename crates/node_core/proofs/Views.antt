@@ -24,14 +24,15 @@ use Rattle.sbo_device.specs.declared.key.Key.{Key}
 use Rattle.node_core.specs.Devices.DeviceBanks.{row_control}
 use Rattle.node_core.proofs.OfDevices.DevicesShown.{devices_seen}
 use Rattle.node_core.specs.LastValues.{updates_in}
-use Rattle.node_core.specs.Found.{IsThere, table_at, offered}
-use Rattle.node_core.specs.declared.peer.Peer.{Peer}
+use Rattle.node_core.specs.Objects.Found.{IsThere, table_at, offered}
+use Rattle.node_core.specs.declared.node.peer.Peer.{Peer}
 use Rattle.node_core.specs.declared.plant.Plant.{Plant}
 use Rattle.node_core.specs.PeerParts.{IsPart}
 use Rattle.node_core.specs.Stored.{IsCommon}
-use Rattle.node_core.specs.Shown.{IsShown, IsShowable, shown_of}
-use Rattle.node_core.proofs.Known.{point_is_there, bytes_eq-names, offered-at, named_by_variant}
-use Rattle.node_core.proofs.Known.{variant_is_lawful}
+use Rattle.node_core.specs.Replies.Shown.{IsShown, IsShowable, shown_of}
+use Rattle.node_core.proofs.OfObjects.Known.{point_is_there, bytes_eq-names, offered-at}
+use Rattle.node_core.proofs.OfObjects.Known.{named_by_variant}
+use Rattle.node_core.proofs.OfObjects.Known.{variant_is_lawful}
 use Rattle.node_core.proofs.CallActs.{each_of_call}
 use Rattle.node_core.proofs.Seeing.{IsKept, by_seat}
 

@@ -10,14 +10,16 @@ use Rattle.tase_views.specs.declared.reply.ReportKind.{ReportKind}
 use Rattle.tase_views.specs.OwnTables.{OwnTable, OwnTables}
 use Rattle.tase_views.specs.View.{View, moment_in}
 use Rattle.tase_views.specs.Reports.{reports_by}
-use Rattle.node_core.specs.declared.cause.ReportCause.{ReportCause}
-use Rattle.node_core.specs.declared.peer.Peer.{Peer}
+use Rattle.node_core.specs.declared.feeds.cause.ReportCause.{ReportCause}
+use Rattle.node_core.specs.declared.node.peer.Peer.{Peer}
 use Rattle.node_core.specs.declared.plant.Plant.{Plant}
-use Rattle.node_core.specs.Associations.{OpenAssociation, undrafted, with_drafted, association_at}
-use Rattle.node_core.specs.Found.{offered, table_at}
-use Rattle.node_core.specs.Shown.{Shown, InEachView, shown_of}
-use Rattle.node_core.specs.SlotFeeds.{move_of, moment_before, AreReported, AreChanged, IsPlanned}
-use Rattle.node_core.specs.SlotFeeds.{HasPlanRoom}
+use Rattle.node_core.specs.Slots.Associations.{OpenAssociation, undrafted, with_drafted}
+use Rattle.node_core.specs.Slots.Associations.{association_at}
+use Rattle.node_core.specs.Objects.Found.{offered, table_at}
+use Rattle.node_core.specs.Replies.Shown.{Shown, InEachView, shown_of}
+use Rattle.node_core.specs.Feeds.SlotFeeds.{move_of, moment_before, AreReported, AreChanged}
+use Rattle.node_core.specs.Feeds.SlotFeeds.{IsPlanned}
+use Rattle.node_core.specs.Feeds.SlotFeeds.{HasPlanRoom}
 
 -- ---- one part
 

@@ -30,12 +30,12 @@ use Rattle.tase_views.specs.Sets.{SetError, error_of}
 use Rattle.tase_views.specs.Slots.{slot_moves}
 use Rattle.tase_views.specs.Answers.{define_replied}
 use Rattle.tase_views.specs.Reports.{reports_pending}
-use Rattle.node_core.specs.declared.peer.Peer.{Peer}
-use Rattle.node_core.specs.SetsKept.{IsBook, left_behind}
-use Rattle.node_core.specs.SlotsKept.{IsBank, is_kept, slots_read, slots_written}
-use Rattle.node_core.specs.SlotFeeds.{no_plan}
-use Rattle.node_core.specs.Associations.{OpenAssociation, new_association, is_open_in}
-use Rattle.node_core.specs.Associations.{open_without, behind_take}
+use Rattle.node_core.specs.declared.node.peer.Peer.{Peer}
+use Rattle.node_core.specs.Slots.SetsKept.{IsBook, left_behind}
+use Rattle.node_core.specs.Slots.SlotsKept.{IsBank, is_kept, slots_read, slots_written}
+use Rattle.node_core.specs.Feeds.SlotFeeds.{no_plan}
+use Rattle.node_core.specs.Slots.Associations.{OpenAssociation, new_association, is_open_in}
+use Rattle.node_core.specs.Slots.Associations.{open_without, behind_take}
 
 -- what a view shows of the peer's table in force
 abbrev pub table_moves : View → List TableMove

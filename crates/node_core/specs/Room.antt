@@ -6,7 +6,7 @@ use Rattle.tase_views.specs.declared.event.EventKind.TheVariants.{Open, Close, S
 use Rattle.tase_views.specs.History.{Past, stop_in}
 use Rattle.tase_views.specs.Weights.{weight, weight_of}
 use Rattle.texts.specs.Journal.Journals.{entry_text}
-use Rattle.node_core.specs.declared.log.TheConstants.{LONGEST_ENDING}
+use Rattle.node_core.specs.declared.node.log.TheConstants.{LONGEST_ENDING}
 use Rattle.node_core.specs.LogState.{LogState}
 
 -- the entries of a log, the newest first

@@ -18,16 +18,16 @@ use Rattle.tase_views.specs.Moves.{Act}
 use Rattle.tase_views.specs.View.{moves_in, view_of}
 use Rattle.tase_views.specs.Answers.{reply_to}
 use Rattle.node_core.specs.Devices.DeviceBanks.{IsDeviceBank}
-use Rattle.node_core.specs.declared.hub.Hub.{Hub}
-use Rattle.node_core.specs.declared.parts.Parts.{Parts}
-use Rattle.node_core.specs.declared.peer.Peer.{Peer}
+use Rattle.node_core.specs.declared.node.hub.Hub.{Hub}
+use Rattle.node_core.specs.declared.node.parts.Parts.{Parts}
+use Rattle.node_core.specs.declared.node.peer.Peer.{Peer}
 use Rattle.node_core.specs.declared.plant.Plant.{Plant}
 use Rattle.node_core.specs.LastValues.{kinds_of, updates_in}
-use Rattle.node_core.specs.Shown.{IsCalm, IsShowable, shown_of}
-use Rattle.node_core.specs.SlotFeeds.{HasPlanRoom}
-use Rattle.node_core.specs.Associations.{is_open_in}
+use Rattle.node_core.specs.Replies.Shown.{IsCalm, IsShowable, shown_of}
+use Rattle.node_core.specs.Feeds.SlotFeeds.{HasPlanRoom}
+use Rattle.node_core.specs.Slots.Associations.{is_open_in}
 use Rattle.node_core.specs.PeerParts.{IsPart, part_behind}
-use Rattle.node_core.specs.Indexed.{AreIndexed}
+use Rattle.node_core.specs.Feeds.Indexed.{AreIndexed}
 
 -- the centre is lawful; the points and the devices, and each seat's association, are those of this
 -- past

@@ -20,24 +20,28 @@ ghost use Rattle.tase_views.specs.Answers as answers;
 ghost use Rattle.tase_views.specs.Outcomes.{is_ending, refusal_of, IsAnswer, IsRightOutcome};
 ghost use Rattle.texts.specs.Journal.Journals.{entry_text};
 ghost use Rattle.node_core.specs.NodeState.{with_entry};
-ghost use Rattle.node_core.specs.declared.sorts.CallSort.TheVariants as sorts;
-ghost use Rattle.node_core.specs.Shown.{IsCalm};
-ghost use Rattle.node_core.specs.CallSorts.{IsRequestOf};
+ghost use Rattle.node_core.specs.declared.replies.sorts.CallSort.TheVariants as sorts;
+ghost use Rattle.node_core.specs.Replies.Shown.{IsCalm};
+ghost use Rattle.node_core.specs.Replies.CallSorts.{IsRequestOf};
 ghost use Rattle.node_core.specs.Stored.{IsTaggingOf, IsCalmRequest, IsReplied};
-ghost use Rattle.node_core.specs.Concerned.{concerned, due_in_all, watching_total};
+ghost use Rattle.node_core.specs.Feeds.Concerned.{concerned, due_in_all, watching_total};
 
-use crate::cause::{Advance, ReportCause};
-use crate::device_acts::{select_all, write_devices};
-use crate::hub::Hub;
-use crate::in_force::InForce;
-use crate::log::Log;
-use crate::parts::{Parts, peer_view};
-use crate::plan::Change;
-use crate::refusals::{clock_refusal, first_refusal, name_refusal, seat_refusal};
-use crate::replies::ReadReply;
-use crate::sorts::{CallSort, sort_of};
-use crate::writes::{read_writes, written};
+mod hub;
+mod log;
+mod parts;
+mod peer;
+mod refusals;
+
+use crate::feeds::{Advance, Change, ReportCause};
+use crate::objects::InForce;
+use crate::replies::{
+    CallSort, ReadReply, read_writes, select_all, sort_of, write_devices, written,
+};
 use bilateral::Centre;
+use hub::Hub;
+use log::Log;
+use parts::{Parts, peer_view};
+use refusals::{clock_refusal, first_refusal, name_refusal, seat_refusal};
 use sbo_device::{Hold, Key, Order};
 use std::alloc::{AllocError, Global};
 use std::marker::Model;

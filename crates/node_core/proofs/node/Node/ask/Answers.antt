@@ -1,17 +1,17 @@
 use Rattle.std.proofs.Common.{◌<◌, List, length, refl, sym, subst, ◌∙◌, arith}
 use Rattle.bilateral.specs.Rows.{CentreRows}
 use Rattle.std.specs.Arc.{arc_value}
-use Rattle.node_core.specs.declared.cause.ReportCause.TheVariants.{Ask}
-use Rattle.node_core.specs.declared.peer.Peer.{Peer}
+use Rattle.node_core.specs.declared.feeds.cause.ReportCause.TheVariants.{Ask}
+use Rattle.node_core.specs.declared.node.peer.Peer.{Peer}
 use Rattle.node_core.specs.PartFeeds.{IsReported, OneBecomes}
 use Rattle.node_core.specs.Stored.{IsNode, IsPeerThere}
 use Rattle.node_core.specs.Room.{past_of}
-use Rattle.node_core.proofs.Causes.{named-ask}
-use Rattle.node_core.proofs.Indexing.{stays_one, stays_both, there_reported}
-use Rattle.node_core.proofs.NodeAnswers.{light_enough, free_at, unlogged, logged, reindexed}
-use Rattle.node_core.proofs.NodeAnswers.{has_index, lawful_at}
-use Rattle.node_core.proofs.NodeSteps.{IsNode-ask, IsNode-drafted, one_each, peer_there}
-use Rattle.node_core.proofs.PeerViews.{peer_shown, all_banked}
+use Rattle.node_core.proofs.OfNode.Causes.{named-ask}
+use Rattle.node_core.proofs.OfNode.Indexing.{stays_one, stays_both, there_reported}
+use Rattle.node_core.proofs.OfNode.NodeAnswers.{light_enough, free_at, unlogged, logged, reindexed}
+use Rattle.node_core.proofs.OfNode.NodeAnswers.{has_index, lawful_at}
+use Rattle.node_core.proofs.OfNode.NodeSteps.{IsNode-ask, IsNode-drafted, one_each, peer_there}
+use Rattle.node_core.proofs.OfNode.PeerViews.{peer_shown, all_banked}
 use Rattle.node_core.proofs.node.Node.ask.Goals as goal
 use Rattle.node_core.proofs.node.Node.ask.Goals.{After-open_count, After-draft}
 

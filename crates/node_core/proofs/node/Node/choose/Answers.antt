@@ -7,11 +7,11 @@ use Rattle.tase_views.specs.View.{chose}
 use Rattle.node_core.specs.PeerParts.{part_after}
 use Rattle.node_core.specs.Room.{past_of}
 use Rattle.node_core.specs.Stored.{IsPeerThere, IsChanged}
-use Rattle.node_core.proofs.Causes.{named-table}
-use Rattle.node_core.proofs.Indexing.{stays_changed, there_settled}
-use Rattle.node_core.proofs.NodeAnswers.{light_enough, free_at, unlogged, logged, reindexed}
-use Rattle.node_core.proofs.NodeAnswers.{has_index, lawful_at}
-use Rattle.node_core.proofs.NodeSteps.{IsNode-chosen, peer_there, its_part}
+use Rattle.node_core.proofs.OfNode.Causes.{named-table}
+use Rattle.node_core.proofs.OfNode.Indexing.{stays_changed, there_settled}
+use Rattle.node_core.proofs.OfNode.NodeAnswers.{light_enough, free_at, unlogged, logged, reindexed}
+use Rattle.node_core.proofs.OfNode.NodeAnswers.{has_index, lawful_at}
+use Rattle.node_core.proofs.OfNode.NodeSteps.{IsNode-chosen, peer_there, its_part}
 use Rattle.node_core.proofs.node.Node.choose.Goals as goal
 use Rattle.node_core.proofs.node.Node.choose.Goals.{After-open_count, After-choose}
 

@@ -11,17 +11,17 @@ use Rattle.tase_views.specs.View.{own}
 use Rattle.sbo_device.specs.Moves.{closed}
 use Rattle.sbo_device.specs.Banks.{moved}
 use Rattle.node_core.specs.declared.plant.Plant.{Plant}
-use Rattle.node_core.specs.Associations.{open_without}
+use Rattle.node_core.specs.Slots.Associations.{open_without}
 use Rattle.node_core.specs.PeerParts.{part_after}
-use Rattle.node_core.specs.Indexed.{AreIndexed}
+use Rattle.node_core.specs.Feeds.Indexed.{AreIndexed}
 use Rattle.node_core.specs.Room.{past_of}
 use Rattle.node_core.specs.Stored.{IsPeerThere, IsChanged}
-use Rattle.node_core.proofs.Causes.{seated-take}
-use Rattle.node_core.proofs.Indexing.{stays_changed, there_settled}
-use Rattle.node_core.proofs.NodeAnswers.{light_enough, free_at, seated_by, ended, reindexed}
-use Rattle.node_core.proofs.NodeAnswers.{has_index, lawful_at}
-use Rattle.node_core.proofs.NodeSteps.{IsNode-close, peer_there, its_part}
-use Rattle.node_core.proofs.Rooms.{line-close}
+use Rattle.node_core.proofs.OfNode.Causes.{seated-take}
+use Rattle.node_core.proofs.OfNode.Indexing.{stays_changed, there_settled}
+use Rattle.node_core.proofs.OfNode.NodeAnswers.{light_enough, free_at, seated_by, ended, reindexed}
+use Rattle.node_core.proofs.OfNode.NodeAnswers.{has_index, lawful_at}
+use Rattle.node_core.proofs.OfNode.NodeSteps.{IsNode-close, peer_there, its_part}
+use Rattle.node_core.proofs.OfNode.Rooms.{line-close}
 use Rattle.node_core.proofs.node.Node.close.Goals as goal
 use Rattle.node_core.proofs.node.Node.close.Goals.{After-close-2}
 

@@ -2,7 +2,7 @@ use Rattle.std.proofs.Common.{◌<◌, length, subst, arith, ◌∙◌}
 use Rattle.std.specs.Arc.{arc_value}
 use Rattle.bilateral.specs.Rows.{variants_of}
 use Rattle.node_core.specs.NodeState.{NodeState}
-use Rattle.node_core.proofs.NodeSteps.{its_part, peer_there}
+use Rattle.node_core.proofs.OfNode.NodeSteps.{its_part, peer_there}
 use Rattle.node_core.proofs.node.Node.force.Goals as goal
 
 pub force-requires : goal.force-requires

@@ -7,8 +7,8 @@ use Rattle.node_core.specs.Devices.DeviceBanks.{IsDeviceBank}
 use Rattle.node_core.specs.LastValues.{kinds_of}
 use Rattle.node_core.specs.PeerParts.{new_part}
 use Rattle.node_core.specs.Stored.{IsNode, found_by}
-use Rattle.node_core.proofs.NodeAnswers.{indexed_as}
-use Rattle.node_core.proofs.Steps.{IsCommon-new, AreParts-new}
+use Rattle.node_core.proofs.OfNode.NodeAnswers.{indexed_as}
+use Rattle.node_core.proofs.OfNode.Steps.{IsCommon-new, AreParts-new}
 use Rattle.node_core.proofs.node.Node.new.Goals as goal
 
 pub invariant_of-result : goal.invariant_of-result

@@ -6,11 +6,12 @@ use Rattle.node_core.specs.NodeState.{NodeState}
 use Rattle.node_core.specs.PeerParts.{acts_asked, IsReplyBy}
 use Rattle.node_core.specs.Room.{past_of}
 use Rattle.node_core.specs.Stored.{IsReplied, IsPeerThere, IsAsked}
-use Rattle.node_core.proofs.Causes.{request-goes_on, request-leaves}
-use Rattle.node_core.proofs.Calls.{calm_request}
-use Rattle.node_core.proofs.NodeAnswers.{light_enough, unlogged, logged, lawful_at, indexed_at}
-use Rattle.node_core.proofs.NodeAnswers.{indexed_as}
-use Rattle.node_core.proofs.NodeSteps.{IsNode-request, IsNode-alike, peer_there, seat_there}
+use Rattle.node_core.proofs.OfNode.Causes.{request-goes_on, request-leaves}
+use Rattle.node_core.proofs.OfNode.Calls.{calm_request}
+use Rattle.node_core.proofs.OfNode.NodeAnswers.{light_enough, unlogged, logged, lawful_at}
+use Rattle.node_core.proofs.OfNode.NodeAnswers.{indexed_at}
+use Rattle.node_core.proofs.OfNode.NodeAnswers.{indexed_as}
+use Rattle.node_core.proofs.OfNode.NodeSteps.{IsNode-request, IsNode-alike, peer_there, seat_there}
 use Rattle.node_core.proofs.node.Node.note.Goals as goal
 
 pub request-requires-clause-there : goal.request-requires-clause-there

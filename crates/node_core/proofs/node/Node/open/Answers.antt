@@ -6,11 +6,11 @@ use Rattle.std.proofs.lemmas.List.{length-reverse}
 use Rattle.tase_views.specs.History.{association_in}
 use Rattle.node_core.specs.Room.{past_of}
 use Rattle.node_core.specs.Stored.{found_by}
-use Rattle.node_core.proofs.Causes.{seated-open, named-open}
-use Rattle.node_core.proofs.NodeAnswers.{seen_as, light_enough, free_at, unlogged, logged}
-use Rattle.node_core.proofs.Outcomes.{none_there, IsAnswer-open}
-use Rattle.node_core.proofs.NodeSteps.{IsNode-open, IsNode-alike, may_open, opens_next}
-use Rattle.node_core.proofs.NodeSteps.{unseated_again}
+use Rattle.node_core.proofs.OfNode.Causes.{seated-open, named-open}
+use Rattle.node_core.proofs.OfNode.NodeAnswers.{seen_as, light_enough, free_at, unlogged, logged}
+use Rattle.node_core.proofs.OfNode.Outcomes.{none_there, IsAnswer-open}
+use Rattle.node_core.proofs.OfNode.NodeSteps.{IsNode-open, IsNode-alike, may_open, opens_next}
+use Rattle.node_core.proofs.OfNode.NodeSteps.{unseated_again}
 use Rattle.node_core.proofs.node.Node.open.Goals as goal
 use Rattle.node_core.proofs.node.Node.open.Goals.{After-open_count}
 

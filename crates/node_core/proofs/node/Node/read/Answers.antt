@@ -9,16 +9,16 @@ use Rattle.tase_views.specs.OwnTables.{own_tables, table_in}
 use Rattle.tase_views.specs.View.{view_of}
 use Rattle.node_core.specs.LastValues.{updates_in}
 use Rattle.node_core.specs.Room.{past_of}
-use Rattle.node_core.specs.declared.peer.Peer.{Peer}
-use Rattle.node_core.specs.Found.{TableInForce, IsThere, table_at, offered}
-use Rattle.node_core.specs.DeviceWrites.{AreOfRows, devices_read}
+use Rattle.node_core.specs.declared.node.peer.Peer.{Peer}
+use Rattle.node_core.specs.Objects.Found.{TableInForce, IsThere, table_at, offered}
+use Rattle.node_core.specs.Replies.DeviceWrites.{AreOfRows, devices_read}
 use Rattle.node_core.specs.Stored.{IsPeerThere}
-use Rattle.node_core.proofs.NodeAnswers.{IsSeated, seen_as, light_enough, seated_by}
-use Rattle.node_core.proofs.NodeAnswers.{unlogged, logged, lawful_at, indexed_at, indexed_as}
-use Rattle.node_core.proofs.Outcomes.{IsAnswer-request}
-use Rattle.node_core.proofs.NodeSteps.{IsNode-read, peer_there, its_part}
-use Rattle.node_core.proofs.DevicesKept.{bank_many, bank_rows}
-use Rattle.node_core.proofs.PeerViews.{showable, shown_is, hands_of, read_devices, there_is}
+use Rattle.node_core.proofs.OfNode.NodeAnswers.{IsSeated, seen_as, light_enough, seated_by}
+use Rattle.node_core.proofs.OfNode.NodeAnswers.{unlogged, logged, lawful_at, indexed_at, indexed_as}
+use Rattle.node_core.proofs.OfNode.Outcomes.{IsAnswer-request}
+use Rattle.node_core.proofs.OfNode.NodeSteps.{IsNode-read, peer_there, its_part}
+use Rattle.node_core.proofs.OfReplies.DevicesKept.{bank_many, bank_rows}
+use Rattle.node_core.proofs.OfNode.PeerViews.{showable, shown_is, hands_of, read_devices, there_is}
 use Rattle.node_core.proofs.node.Node.read.Goals as goal
 use Rattle.node_core.proofs.node.Node.read.Goals.{After-unwrap-key, After-peer_view-shown}
 

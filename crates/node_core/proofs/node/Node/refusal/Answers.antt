@@ -5,7 +5,7 @@ use Rattle.tase_views.specs.Outcomes.{seat_refusal, name_refusal, clock_refusal_
 use Rattle.tase_views.specs.Setup.{Setup}
 use Rattle.node_core.specs.NodeState.{NodeState}
 use Rattle.node_core.specs.Room.{past_of}
-use Rattle.node_core.proofs.Causes.{refusal_of-parts}
+use Rattle.node_core.proofs.OfNode.Causes.{refusal_of-parts}
 use Rattle.node_core.proofs.node.Node.refusal.Goals as goal
 
 pub returns : goal.returns

@@ -8,8 +8,8 @@ use Rattle.node_core.specs.LastValues.{updates_in}
 use Rattle.node_core.specs.NodeState.{NodeState}
 use Rattle.node_core.specs.Room.{past_of}
 use Rattle.node_core.specs.Stored.{IsPeerThere}
-use Rattle.node_core.proofs.NodeSteps.{peer_there}
-use Rattle.node_core.proofs.PeerViews.{showable, shown_is}
+use Rattle.node_core.proofs.OfNode.NodeSteps.{peer_there}
+use Rattle.node_core.proofs.OfNode.PeerViews.{showable, shown_is}
 use Rattle.node_core.proofs.node.Node.reply_to.Goals as goal
 
 pub peer_view-shown-requires-clause-lawful : goal.peer_view-shown-requires-clause-lawful

@@ -1,10 +1,10 @@
 use Rattle.std.proofs.Common.{◌≡◌, refl, arith}
 use Rattle.tase_views.specs.declared.event.EventKind.TheVariants.{Stop}
 use Rattle.node_core.specs.Room.{past_of, stops_left}
-use Rattle.node_core.proofs.Causes.{going-still}
-use Rattle.node_core.proofs.NodeAnswers.{light_enough, free_at, ended}
-use Rattle.node_core.proofs.NodeSteps.{IsNode-stop}
-use Rattle.node_core.proofs.Rooms.{line-stop, one_left}
+use Rattle.node_core.proofs.OfNode.Causes.{going-still}
+use Rattle.node_core.proofs.OfNode.NodeAnswers.{light_enough, free_at, ended}
+use Rattle.node_core.proofs.OfNode.NodeSteps.{IsNode-stop}
+use Rattle.node_core.proofs.OfNode.Rooms.{line-stop, one_left}
 use Rattle.node_core.proofs.node.Node.stop.Goals as goal
 
 pub append-requires-clause-line : goal.append-requires-clause-line

@@ -2,9 +2,9 @@ use Rattle.std.proofs.Common.{ℕ, List, refl, sym, ap, ◌∙◌}
 use Rattle.std.specs.Arc.{arc_value}
 use Rattle.sbo_device.specs.Moves.{Tag, tagged}
 use Rattle.sbo_device.specs.Banks.{with_move}
-use Rattle.node_core.proofs.Causes.{named-tag, tagging_is}
-use Rattle.node_core.proofs.NodeAnswers.{light_enough, free_at, unlogged, logged}
-use Rattle.node_core.proofs.NodeSteps.{IsNode-tagged}
+use Rattle.node_core.proofs.OfNode.Causes.{named-tag, tagging_is}
+use Rattle.node_core.proofs.OfNode.NodeAnswers.{light_enough, free_at, unlogged, logged}
+use Rattle.node_core.proofs.OfNode.NodeSteps.{IsNode-tagged}
 use Rattle.node_core.proofs.node.Node.tag.Goals as goal
 
 pub invariant_of-self : goal.invariant_of-self

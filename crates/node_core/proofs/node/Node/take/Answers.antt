@@ -1,9 +1,9 @@
 use Rattle.std.proofs.Common.{refl, arith}
 use Rattle.node_core.specs.Room.{past_of}
-use Rattle.node_core.proofs.NodeAnswers.{IsSeated, seen_as, light_enough, seated_by}
-use Rattle.node_core.proofs.NodeAnswers.{unlogged, logged}
-use Rattle.node_core.proofs.Outcomes.{IsAnswer-take}
-use Rattle.node_core.proofs.NodeSteps.{IsNode-take, made_is}
+use Rattle.node_core.proofs.OfNode.NodeAnswers.{IsSeated, seen_as, light_enough, seated_by}
+use Rattle.node_core.proofs.OfNode.NodeAnswers.{unlogged, logged}
+use Rattle.node_core.proofs.OfNode.Outcomes.{IsAnswer-take}
+use Rattle.node_core.proofs.OfNode.NodeSteps.{IsNode-take, made_is}
 use Rattle.node_core.proofs.node.Node.take.Goals as goal
 use Rattle.node_core.proofs.node.Node.take.Goals.{After-unwrap-key}
 

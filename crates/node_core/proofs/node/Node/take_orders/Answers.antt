@@ -1,8 +1,8 @@
 use Rattle.std.proofs.Common.{refl, ◌∙◌}
 use Rattle.node_core.specs.Room.{past_of}
-use Rattle.node_core.proofs.NodeAnswers.{seen_as, light_enough, unlogged, logged}
-use Rattle.node_core.proofs.Outcomes.{IsAnswer-orders}
-use Rattle.node_core.proofs.NodeSteps.{IsNode-orders}
+use Rattle.node_core.proofs.OfNode.NodeAnswers.{seen_as, light_enough, unlogged, logged}
+use Rattle.node_core.proofs.OfNode.Outcomes.{IsAnswer-orders}
+use Rattle.node_core.proofs.OfNode.NodeSteps.{IsNode-orders}
 use Rattle.node_core.proofs.node.Node.take_orders.Goals as goal
 
 pub invariant_of-self : goal.invariant_of-self

@@ -3,23 +3,23 @@ use Rattle.std.proofs.Common.{arith}
 use Rattle.std.specs.Arc.{arc_value}
 use Rattle.sbo_device.specs.declared.device.TheConstants.{MOMENT_LIMIT}
 use Rattle.tase_views.specs.History.{last_tick}
-use Rattle.node_core.specs.declared.hub.Hub.{Hub}
-use Rattle.node_core.specs.declared.index.PeerIndex.{PeerIndex}
-use Rattle.node_core.specs.SlotFeeds.{IsForward}
-use Rattle.node_core.specs.Indexed.{AreIndexed, due_total}
-use Rattle.node_core.specs.Concerned.{due_in_all}
+use Rattle.node_core.specs.declared.node.hub.Hub.{Hub}
+use Rattle.node_core.specs.declared.feeds.index.PeerIndex.{PeerIndex}
+use Rattle.node_core.specs.Feeds.SlotFeeds.{IsForward}
+use Rattle.node_core.specs.Feeds.Indexed.{AreIndexed, due_total}
+use Rattle.node_core.specs.Feeds.Concerned.{due_in_all}
 use Rattle.node_core.specs.Room.{past_of}
 use Rattle.std.specs.HashMap.{hash_map_len}
 use Rattle.sbo_device.specs.Banks.{BankState}
 use Rattle.node_core.specs.NodeState.{NodeState}
-use Rattle.node_core.proofs.Bounds.{dues_are}
-use Rattle.node_core.proofs.PeerTotals.{looked_once, looked_twice}
-use Rattle.node_core.proofs.Indexing.{AreIndexed-alike}
-use Rattle.node_core.proofs.NodeAnswers.{light_enough, unlogged, logged, free_at, indexed_at}
-use Rattle.node_core.proofs.NodeAnswers.{indexed_as}
-use Rattle.node_core.proofs.Causes.{timed-tick, later-tick}
-use Rattle.node_core.proofs.NodeSteps.{IsNode-tick, IsNode-drafted}
-use Rattle.node_core.proofs.PeerViews.{all_shown, all_banked}
+use Rattle.node_core.proofs.OfNode.Bounds.{dues_are}
+use Rattle.node_core.proofs.OfNode.PeerTotals.{looked_once, looked_twice}
+use Rattle.node_core.proofs.OfNode.Indexing.{AreIndexed-alike}
+use Rattle.node_core.proofs.OfNode.NodeAnswers.{light_enough, unlogged, logged, free_at, indexed_at}
+use Rattle.node_core.proofs.OfNode.NodeAnswers.{indexed_as}
+use Rattle.node_core.proofs.OfNode.Causes.{timed-tick, later-tick}
+use Rattle.node_core.proofs.OfNode.NodeSteps.{IsNode-tick, IsNode-drafted}
+use Rattle.node_core.proofs.OfNode.PeerViews.{all_shown, all_banked}
 use Rattle.node_core.proofs.node.Node.tick.Goals as goal
 use Rattle.node_core.proofs.node.Node.tick.Goals.{After-open_count, After-draft_all}
 

@@ -3,19 +3,19 @@ use Rattle.bilateral.specs.Rows.{CentreRows}
 use Rattle.std.specs.Arc.{arc_value}
 use Rattle.node_core.specs.Room.{past_of}
 use Rattle.node_core.specs.LastValues.{kinds_of, updates_in}
-use Rattle.node_core.proofs.Causes.{named-update}
-use Rattle.node_core.specs.declared.index.PeerIndex.{PeerIndex}
-use Rattle.node_core.specs.Indexed.{AreIndexed, watch_total, plan_total}
-use Rattle.node_core.specs.Concerned.{watching_total}
-use Rattle.node_core.proofs.Indexing.{AreIndexed-alike}
-use Rattle.node_core.proofs.NodeAnswers.{light_enough, free_at, unlogged, logged, lawful_at}
-use Rattle.node_core.proofs.NodeAnswers.{indexed_at, indexed_as}
-use Rattle.node_core.proofs.Steps.{known-point}
-use Rattle.node_core.proofs.NodeSteps.{IsNode-update, IsNode-drafted}
-use Rattle.node_core.proofs.PeerViews.{all_banked, all_roomed, all_shown}
+use Rattle.node_core.proofs.OfNode.Causes.{named-update}
+use Rattle.node_core.specs.declared.feeds.index.PeerIndex.{PeerIndex}
+use Rattle.node_core.specs.Feeds.Indexed.{AreIndexed, watch_total, plan_total}
+use Rattle.node_core.specs.Feeds.Concerned.{watching_total}
+use Rattle.node_core.proofs.OfNode.Indexing.{AreIndexed-alike}
+use Rattle.node_core.proofs.OfNode.NodeAnswers.{light_enough, free_at, unlogged, logged, lawful_at}
+use Rattle.node_core.proofs.OfNode.NodeAnswers.{indexed_at, indexed_as}
+use Rattle.node_core.proofs.OfNode.Steps.{known-point}
+use Rattle.node_core.proofs.OfNode.NodeSteps.{IsNode-update, IsNode-drafted}
+use Rattle.node_core.proofs.OfNode.PeerViews.{all_banked, all_roomed, all_shown}
 use Rattle.node_core.specs.NodeState.{NodeState}
-use Rattle.node_core.proofs.Bounds.{watchers_are, plans_are}
-use Rattle.node_core.proofs.PeerTotals.{looked_both, looked_thrice}
+use Rattle.node_core.proofs.OfNode.Bounds.{watchers_are, plans_are}
+use Rattle.node_core.proofs.OfNode.PeerTotals.{looked_both, looked_thrice}
 use Rattle.node_core.proofs.node.Node.update.Goals as goal
 use Rattle.node_core.proofs.node.Node.update.Goals.{After-prepare_all, After-note_all}
 

@@ -6,28 +6,28 @@ use Rattle.tase_views.specs.declared.call.CallKind.{CallKind}
 use Rattle.tase_views.specs.declared.call.CallKind.TheVariants.{Write}
 use Rattle.tase_views.specs.declared.event.EventKind.TheVariants.{Request}
 use Rattle.tase_views.specs.OwnTables.{OwnTable, own_tables, table_in}
-use Rattle.node_core.specs.declared.peer.Peer.{Peer}
+use Rattle.node_core.specs.declared.node.peer.Peer.{Peer}
 use Rattle.node_core.specs.Room.{past_of}
 use Rattle.node_core.specs.Stored.{IsPeerThere, IsChanged}
-use Rattle.node_core.proofs.NodeAnswers.{IsSeated, seen_as, light_enough, seated_by}
-use Rattle.node_core.proofs.NodeAnswers.{unlogged, logged, reindexed, has_index, lawful_at}
-use Rattle.node_core.proofs.Outcomes.{IsAnswer-request}
+use Rattle.node_core.proofs.OfNode.NodeAnswers.{IsSeated, seen_as, light_enough, seated_by}
+use Rattle.node_core.proofs.OfNode.NodeAnswers.{unlogged, logged, reindexed, has_index, lawful_at}
+use Rattle.node_core.proofs.OfNode.Outcomes.{IsAnswer-request}
 use Rattle.std.specs.Prelude.{slice_get}
 use Rattle.mms_data.specs.Datum.{Datum}
 use Rattle.mms_data.specs.ObjectName.{ObjectName}
 use Rattle.tase_views.specs.declared.reply.ReplyKind.TheVariants.{Written}
-use Rattle.node_core.specs.Found.{TableInForce, IsThere, table_at, offered}
+use Rattle.node_core.specs.Objects.Found.{TableInForce, IsThere, table_at, offered}
 use Rattle.sbo_device.specs.declared.order.Order.{Order}
 use Rattle.sbo_device.specs.Banks.{DeviceRecord}
-use Rattle.node_core.specs.declared.writes.Asked.{Asked}
+use Rattle.node_core.specs.declared.slots.writes.Asked.{Asked}
 use Rattle.std.specs.List.{All}
-use Rattle.node_core.specs.SlotWrites.{IsAskedThere, all_asked, all_answers, all_slots}
-use Rattle.node_core.specs.DeviceWrites.{all_left, all_devices, all_orders}
-use Rattle.node_core.proofs.DevicesKept.{bank_many}
-use Rattle.node_core.proofs.DeviceActs.{left_many}
-use Rattle.node_core.proofs.Indexing.{stays_changed, there_slots, length-all_slots}
-use Rattle.node_core.proofs.NodeSteps.{IsNode-write, peer_there, its_part}
-use Rattle.node_core.proofs.PeerViews.{there_is, offered_is, written_is}
+use Rattle.node_core.specs.Slots.SlotWrites.{IsAskedThere, all_asked, all_answers, all_slots}
+use Rattle.node_core.specs.Replies.DeviceWrites.{all_left, all_devices, all_orders}
+use Rattle.node_core.proofs.OfReplies.DevicesKept.{bank_many}
+use Rattle.node_core.proofs.OfReplies.DeviceActs.{left_many}
+use Rattle.node_core.proofs.OfNode.Indexing.{stays_changed, there_slots, length-all_slots}
+use Rattle.node_core.proofs.OfNode.NodeSteps.{IsNode-write, peer_there, its_part}
+use Rattle.node_core.proofs.OfNode.PeerViews.{there_is, offered_is, written_is}
 use Rattle.node_core.proofs.node.Node.write.Goals as goal
 use Rattle.node_core.proofs.node.Node.write.Goals.{After-unwrap-key, After-write_devices}
 use Rattle.node_core.proofs.node.Node.write.Goals.{After-write}

@@ -1,0 +1,4 @@
+pub mod SlotFeeds
+pub mod Planned
+pub mod WatchRoom
+pub mod Indexes

@@ -1,0 +1,16 @@
+pub mod PartSteps
+pub mod Steps
+pub mod Calls
+pub mod PointChanges
+pub mod NodeSteps
+pub mod PeerViews
+pub mod Outcomes
+pub mod Causes
+pub mod LogLines
+pub mod Rooms
+pub mod NodeAnswers
+pub mod PartLists
+pub mod Indexing
+pub mod TickDrafts
+pub mod PeerTotals
+pub mod Bounds

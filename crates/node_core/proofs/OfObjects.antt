@@ -1,0 +1,9 @@
+pub mod Known
+pub mod Names
+pub mod OwnObjects
+pub mod Sorted
+pub mod SetNames
+pub mod Listed
+pub mod SlotNames
+pub mod SlotItems
+pub mod DeviceNames

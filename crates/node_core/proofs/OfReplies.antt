@@ -1,0 +1,11 @@
+pub mod Answered
+pub mod Lawful
+pub mod Operands
+pub mod DeviceActs
+pub mod DevicesKept
+pub mod SlotWrites
+pub mod ReportsMade
+pub mod ReportsAlike
+pub mod ReportsShown
+pub mod SelectionsEnded
+pub mod TagForms

@@ -1,0 +1,9 @@
+pub mod FoundSets
+pub mod OpenLists
+pub mod Deletions
+pub mod Faults
+pub mod SetBooks
+pub mod SlotBanks
+pub mod Drafts
+pub mod AssociationSteps
+pub mod Kept

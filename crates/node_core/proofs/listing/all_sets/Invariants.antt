@@ -1,9 +1,0 @@
-use Rattle.std.proofs.Common.{◌≡◌, map, take, filter}
-use Rattle.tase_views.specs.NameLists.{is_after}
-use Rattle.node_core.proofs.SetNames.{book_names}
-use Rattle.node_core.proofs.listing.all_sets.Given as goal
-
-abbrev pub invariant-loop-index : goal.invariant-loop-index
-invariant-loop-index l =
-    map (λ name. name.now) l.names.items
-    ≡ filter (is_after l.after) (book_names (take l.index l.book.sets))

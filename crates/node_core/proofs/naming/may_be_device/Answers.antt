@@ -1,8 +1,0 @@
-use Rattle.std.proofs.Common.{sym, ◌∙◌}
-use Rattle.node_core.proofs.DeviceNames.{may_not_be}
-use Rattle.node_core.proofs.naming.may_be_device.Goals as goal
-
-pub returns : goal.returns
-returns c = λ control there none.
-    may_not_be c.args.table.now.rows c.args.item.now control there
-    (sym c.is_device.ensures ∙ c.if-is_device.false) (sym c.has_device_end.ensures ∙ none)

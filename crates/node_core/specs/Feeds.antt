@@ -1,0 +1,3 @@
+pub mod SlotFeeds
+pub mod Indexed
+pub mod Concerned

@@ -1,0 +1,3 @@
+pub mod DeviceWrites
+pub mod Shown
+pub mod CallSorts

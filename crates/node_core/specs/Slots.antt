@@ -1,0 +1,4 @@
+pub mod SetsKept
+pub mod SlotsKept
+pub mod SlotWrites
+pub mod Associations

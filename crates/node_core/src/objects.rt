@@ -1,0 +1,9 @@
+//! The objects of a centre that a peer may name: by what names, and which of them are listed.
+
+mod in_force;
+mod listing;
+mod naming;
+
+pub(crate) use in_force::InForce;
+pub(crate) use listing::{list_names, name_with};
+pub(crate) use naming::{Found, Special, find_object, is_member, is_report_variable, slot_item};
