@@ -35,7 +35,8 @@ use Rattle.tase_conn.specs.Map.Linked.{link_octets, opened_in}
 use Rattle.tase_conn.specs.Map.Closed.{is_closed}
 use Rattle.tase_conn.proofs.OfMap.Closing.{closed_spent}
 use Rattle.conn_service.specs.Sends.{Sends, IsSaidInPart, IsFrontOf, IsSaidByEnd, close_of}
-use Rattle.conn_service.specs.Attending.{IsCut}
+use Rattle.conn_service.specs.Sends.{IsWholeFor}
+use Rattle.conn_service.specs.Attending.{IsCut, IsNodesEnd}
 
 -- ---- its seat
 
@@ -178,6 +179,19 @@ shut_by past who (Some key) e = record {
   closed = event_here events.Close [] who ∙ ap close_of (sym e);
 }
 
+-- an end that a node brings isn't for the link
+pub node_whole : (end : ConnEnd) (others : List EventKind) → IsNodesEnd end → IsWholeFor end others
+node_whole (conn_ends.TooLong len detail) others is = tt
+node_whole conn_ends.Stopped others is = tt
+node_whole (conn_ends.Full weight limit) others is = tt
+node_whole conn_ends.Memory others is = tt
+node_whole conn_ends.LinkFault others is = absurd is
+node_whole (conn_ends.Overflow pending limit) others is = absurd is
+node_whole conn_ends.Finished others is = absurd is
+node_whole conn_ends.PeerEnd others is = absurd is
+node_whole conn_ends.Declined others is = absurd is
+node_whole (conn_ends.Refused fault) others is = absurd is
+
 -- what is owed where a connection was cut
 pub cut_sends : (setup : Setup) (past : Past) (who : ℕ) (items : List Item) (said : List ℕ)
     (old : Talking) (after : Past) (new : Talking)
@@ -195,6 +209,7 @@ cut_sends setup past who items said old after new c =
           past_is = c.after_is ∙ s.is;
           others = c.others;
           asks_are = c.asks_are;
+          whole = node_whole c.end c.others c.by_node;
           cause = c.cause;
           closed = s.closed;
           none_open = c.none_open;

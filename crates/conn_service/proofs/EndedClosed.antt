@@ -1,6 +1,6 @@
 -- A connection that has ended leaves no association of its seat open.
 use Rattle.std.proofs.Common.{◌≡◌, ℕ, Bool, true, false, List, [], ◌∷◌, Option, Some, None}
-use Rattle.std.proofs.Common.{refl, sym, ap, subst, ◌∙◌, ⊎_elim, filter}
+use Rattle.std.proofs.Common.{refl, ⊎_elim, filter}
 use Rattle.std.specs.Prelude.{option_and_then, slice_get, if◌then◌else◌}
 use Rattle.std.specs.List.{list_any}
 use Rattle.std.proofs.lemmas.Option.{none-some}
@@ -13,7 +13,7 @@ use Rattle.tase_conn.specs.Map.Turns.{Turn, turns_of}
 use Rattle.tase_conn.specs.Map.Asks.{is_last}
 use Rattle.tase_conn.proofs.OfMap.Unrefused.{shut_seat}
 use Rattle.tase_conn.specs.declared.stage.ConnEnd.{ConnEnd}
-use Rattle.tase_conn.specs.PeerEnd.{peer_end, last_turn, end_at}
+use Rattle.tase_conn.specs.PeerEnd.{last_turn, end_at}
 use Rattle.conn_service.specs.Sends.{Sends, IsAllTaken, IsCutOff}
 
 -- one of them passes the test, where the first that does is found

@@ -20,15 +20,13 @@ use Rattle.tase_views.specs.declared.event.EventKind.TheVariants as events
 use Rattle.tase_views.specs.declared.reply.Answer.{Answer}
 use Rattle.tase_views.specs.declared.reply.Answer.TheVariants as answers
 use Rattle.tase_views.specs.declared.fault.StepFault.{StepFault}
-use Rattle.tase_views.specs.declared.fault.StepFault.TheVariants as faults
 use Rattle.node_core.specs.NodeState.{NodeState, with_entry}
-use Rattle.node_core.proofs.Outcomes.{reverse_push}
+use Rattle.node_core.proofs.OfNode.Outcomes.{reverse_push}
 use Rattle.tase_conn.specs.Map.Inputs.{Item}
 use Rattle.tase_conn.specs.Map.Turns.{Turn}
 use Rattle.tase_conn.specs.declared.stage.PendingEvent.{PendingEvent}
 use Rattle.tase_conn.specs.declared.stage.PendingEvent.TheVariants as askeds
 use Rattle.tase_conn.specs.declared.stage.ConnEnd.{ConnEnd}
-use Rattle.tase_conn.specs.declared.stage.ConnEnd.TheVariants as conn_ends
 use Rattle.tase_conn.specs.declared.stage.Coming.{Coming}
 use Rattle.tase_conn.specs.declared.stage.Stage.{Stage}
 use Rattle.tase_conn.specs.declared.stage.Stage.TheVariants as stages
@@ -45,7 +43,8 @@ use Rattle.tase_conn.specs.Answering.{parting_octets, end_of_fault}
 use Rattle.conn_service.specs.Courses.Serving.{Serves, SaysBy, IsWaiting}
 use Rattle.tase_conn.specs.Map.Sent.{with_event}
 use Rattle.conn_service.specs.Courses.Cutting.{HasLeft, IsClosingFor, LeftBy, left_said}
-use Rattle.conn_service.proofs.OfCourses.Left.{refused_leaves, closing_leaves, closed_leaves, stands_by}
+use Rattle.conn_service.proofs.OfCourses.Left.{refused_leaves, closing_leaves, closed_leaves}
+use Rattle.conn_service.proofs.OfCourses.Left.{stands_by}
 use Rattle.conn_service.proofs.OfCourses.Seats.{none_open}
 use Rattle.conn_service.proofs.OfCourses.Served.{never_refused}
 use Rattle.conn_service.proofs.OfCourses.Wanted.{waiting_of}

@@ -67,13 +67,20 @@ IsCutFor setup past who items conn_ends.PeerEnd refusal = ⊥
 IsCutFor setup past who items conn_ends.Declined refusal = ⊥
 IsCutFor setup past who items (conn_ends.Refused fault) refusal = ⊥
 
+-- all that the link asks was taken before, where it is cut for its link, which has failed or takes
+-- too little: of what the link gave no event is left unasked
+abbrev pub IsWholeFor : ConnEnd → List EventKind → Type 0
+IsWholeFor conn_ends.LinkFault others = others ≡ []
+IsWholeFor (conn_ends.Overflow pending limit) others = others ≡ []
+IsWholeFor end others = Unit {0}
+
 -- a close, where an association is open
 abbrev pub close_of : Option Key → List EventKind
 close_of None = []
 close_of (Some key) = events.Close ∷ []
 
--- the first events that the link asks were taken, and then the connection was cut: its association
--- was closed, if one was open, and none is open since
+-- the first events that the link asks were taken, all of them where it is cut for its link, and then
+-- the connection was cut: its association was closed, if one was open, and none is open since
 pub record IsCutOff (setup : Setup) (past : Past) (who : ℕ) (items : List Item)
     (end : ConnEnd) : Type 0 where
   pub later : Past
@@ -81,6 +88,7 @@ pub record IsCutOff (setup : Setup) (past : Past) (who : ℕ) (items : List Item
   pub past_is : past ≡ later ++ before
   pub others : List EventKind
   pub asks_are : asks_of setup.centre items ≡ reverse (events_by who before) ++ others
+  pub whole : IsWholeFor end others
   pub cause : IsCutFor setup before who items end (first_refused setup before who others)
   pub closed : events_by who later ≡ close_of (association_in before who)
   pub none_open : association_in past who ≡ None

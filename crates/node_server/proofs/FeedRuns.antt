@@ -4,10 +4,12 @@ use Rattle.std.proofs.Common.{refl, sym, ap, ◌∙◌, subst, Some, None, Resul
 use Rattle.std.proofs.lemmas.List.{append-nil}
 use mathlib.Core.List.{IsPrefix}
 use Rattle.outside.specs.declared.source.ReadEnd.TheVariants.{Got, End, Failed}
+use Rattle.std.specs.Prelude.{◌⊎◌, option_map, Option}
 use Rattle.outside.specs.Faults.{counted}
 use Rattle.outside.specs.Octets.{Adds, TakesOctets}
 use Rattle.outside.specs.Source.{SourceTold, ReadsSource}
 use Rattle.outside.proofs.Reading.{Takes-append, HasRead, HasRead-none, HasRead-more}
+use Rattle.outside.proofs.Calling.{GoesOn-then}
 use Rattle.outside.proofs.Writing.{Adds-append}
 use Rattle.tase_views.specs.declared.event.EventKind.{EventKind}
 use Rattle.tase_views.specs.declared.fault.StepFault.{StepFault}
@@ -24,6 +26,7 @@ use Rattle.node_server.specs.FeedReading.{FeedPlace, yet_fed}
 use Rattle.node_server.specs.Feeding.{FeedCame, IsRefusedSo, IsLastEvent, asked_in, says_all}
 use Rattle.node_server.specs.Feeding.{IsInside, is_source_fault, ReadsFeed, FeedsOctets, TellsFeed}
 use Rattle.node_server.specs.Feeding.{ReadsAndTells, RunsFeed, first_place}
+use Rattle.node_server.specs.Feeding.{MayReadOn, HasReadOut, LeavesSource}
 use Rattle.node_server.specs.declared.feed_end.FeedEnd.{FeedEnd}
 use Rattle.node_server.specs.declared.feed_end.FeedEnd.TheVariants.{Ended, StopLine, BadLine}
 use Rattle.node_server.specs.declared.feed_end.FeedEnd.TheVariants.{LongLine, SourceFault, Stopped}
@@ -42,6 +45,45 @@ no_fault Stopped is = refl
 no_fault (Full weight limit) is = refl
 no_fault Memory is = refl
 
+-- ---- how its source was left
+
+-- before it has said its end
+left_inside : (end : FeedEnd) (before after : SourceTold) → IsInside (Some end)
+    → MayReadOn before after → LeavesSource end before after
+left_inside Ended before after is on = absurd is
+left_inside SourceFault before after is on = absurd is
+left_inside StopLine before after is on = inl on
+left_inside (BadLine line) before after is on = inl on
+left_inside (LongLine line) before after is on = inl on
+left_inside Stopped before after is on = inl on
+left_inside (Full weight limit) before after is on = inl on
+left_inside Memory before after is on = inl on
+
+-- behind that
+left_behind : (end : FeedEnd) (before after : SourceTold) → is_source_fault end ≡ false
+    → HasReadOut before after → LeavesSource end before after
+left_behind Ended before after kept out = out
+left_behind SourceFault before after kept out = absurd cc
+left_behind StopLine before after kept out = inr out
+left_behind (BadLine line) before after kept out = inr out
+left_behind (LongLine line) before after kept out = inr out
+left_behind Stopped before after kept out = inr out
+left_behind (Full weight limit) before after kept out = inr out
+left_behind Memory before after kept out = inr out
+
+-- what the last read has said, behind others that gave octets
+said_last : (before mid after : Option Bool) (said : Bool)
+    → (mid ≡ before) ⊎ (mid ≡ option_map (λ _. false) before)
+    → after ≡ option_map (λ _. said) mid → after ≡ option_map (λ _. said) before
+said_last before mid after said (inl same) last = last ∙ ap (option_map (λ _. said)) same
+said_last before mid after said (inr gave) last =
+    last ∙ ap (option_map (λ _. said)) gave ∙ twice before
+  where
+    twice : (told : Option Bool) → option_map (λ _. said) (option_map (λ _. false) told)
+        ≡ option_map (λ _. said) told
+    twice None = refl
+    twice (Some ended) = refl
+
 module _ (before mid after : SourceTold) (octets buf : List ℕ) (read : HasRead before mid octets)
   where
     -- it ended before the source did
@@ -49,7 +91,7 @@ module _ (before mid after : SourceTold) (octets buf : List ℕ) (read : HasRead
     read_inside end inside = record {
       took = read.took;
       gave = read.gave;
-      spent = λ is. absurd (subst (λ (e : FeedEnd). IsInside (Some e)) is inside);
+      last = left_inside end before mid inside (read.ended, read.calls);
       faults = read.faults ∙ ap (λ (b : Bool). counted b before.faults) (sym (no_fault end inside));
       name = read.name;
     }
@@ -68,7 +110,13 @@ module _ (before mid after : SourceTold) (octets buf : List ℕ) (read : HasRead
     read_last end no_fault_is last = record {
       took = took_all last.took;
       gave = gave_all last.gave;
-      spent = λ is. last.spent;
+      last = left_behind end before after no_fault_is (
+        (
+          said_last before.ended mid.ended after.ended true read.ended last.ended,
+          GoesOn-then before.calls mid.calls after.calls true read.calls last.calls,
+        ),
+        last.spent,
+      );
       faults = last.faults ∙ (read.faults
           ∙ ap (λ (b : Bool). counted b before.faults) (sym no_fault_is));
       name = last.name ∙ read.name;
@@ -79,7 +127,10 @@ module _ (before mid after : SourceTold) (octets buf : List ℕ) (read : HasRead
     read_failed last = record {
       took = took_all last.took;
       gave = gave_all last.gave;
-      spent = λ is. absurd cc;
+      last = (
+        said_last before.ended mid.ended after.ended false read.ended last.ended,
+        GoesOn-then before.calls mid.calls after.calls true read.calls last.calls,
+      );
       faults = last.faults ∙ ap (counted true) read.faults;
       name = last.name ∙ read.name;
     }

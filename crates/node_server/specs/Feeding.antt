@@ -1,6 +1,7 @@
 -- A feed, told to the shared node.
 use Rattle.std.specs.Prelude.{◌≡◌, ◌⊎◌, ℕ, Bool, true, false, List, [], ◌∷◌, ◌++◌, map, Result, Ok}
-use Rattle.std.specs.Prelude.{Err, Option, Some, None}
+use Rattle.std.specs.Prelude.{Err, Option, Some, None, option_map}
+use Rattle.outside.specs.Calls.{GoesOn}
 use Rattle.outside.specs.Faults.{counted}
 use Rattle.outside.specs.Octets.{Adds, TakesOctets}
 use Rattle.outside.specs.Source.{SourceTold, IsSpent}
@@ -166,15 +167,32 @@ is_source_fault Stopped = false
 is_source_fault (Full weight limit) = false
 is_source_fault Memory = false
 
-abbrev pub is_ended : FeedEnd → Bool
-is_ended Ended = true
-is_ended StopLine = false
-is_ended (BadLine line) = false
-is_ended (LongLine line) = false
-is_ended SourceFault = false
-is_ended Stopped = false
-is_ended (Full weight limit) = false
-is_ended Memory = false
+-- no read of a source has said that nothing is left, and none has failed
+abbrev pub MayReadOn : SourceTold → SourceTold → Type 0
+MayReadOn before after =
+    ((after.ended ≡ before.ended) ⊎ (after.ended ≡ option_map (λ _. false) before.ended))
+    × GoesOn before.calls after.calls false
+
+-- the last read has said that nothing is left, or it has failed, and no read came after it
+abbrev pub HasReadLast : Bool → SourceTold → SourceTold → Type 0
+HasReadLast said before after = (after.ended ≡ option_map (λ _. said) before.ended)
+    × GoesOn before.calls after.calls true
+
+-- the source has said its end, nothing is left of it, and it was read no more
+abbrev pub HasReadOut : SourceTold → SourceTold → Type 0
+HasReadOut before after = HasReadLast true before after × IsSpent after.left
+
+-- how the feeding has left its source: read out, where it ended as read to its end; with a read
+-- that failed; or else before the source has said its end, or behind that, by its last line
+abbrev pub LeavesSource : FeedEnd → SourceTold → SourceTold → Type 0
+LeavesSource Ended before after = HasReadOut before after
+LeavesSource SourceFault before after = HasReadLast false before after
+LeavesSource StopLine before after = MayReadOn before after ⊎ HasReadOut before after
+LeavesSource (BadLine line) before after = MayReadOn before after ⊎ HasReadOut before after
+LeavesSource (LongLine line) before after = MayReadOn before after ⊎ HasReadOut before after
+LeavesSource Stopped before after = MayReadOn before after ⊎ HasReadOut before after
+LeavesSource (Full weight limit) before after = MayReadOn before after ⊎ HasReadOut before after
+LeavesSource Memory before after = MayReadOn before after ⊎ HasReadOut before after
 
 -- what reading a feed up to this end leaves of a source that gave these octets to it
 pub record ReadsFeed (before after : SourceTold) (end : FeedEnd) (octets : List ℕ) : Type 0 where
@@ -182,8 +200,8 @@ pub record ReadsFeed (before after : SourceTold) (end : FeedEnd) (octets : List 
   pub took : TakesOctets before.left after.left octets
   -- they were added to those given so far
   pub gave : Adds before.given after.given octets
-  -- it ended as read to its end only where nothing is left
-  pub spent : end ≡ Ended → IsSpent after.left
+  -- it was read to its end exactly so far, and no further
+  pub last : LeavesSource end before after
   -- the count rises by one exactly where a read failed
   pub faults : after.faults ≡ counted (is_source_fault end) before.faults
   pub name : after.name ≡ before.name

@@ -5,6 +5,7 @@ mod link_server;
 mod receiving;
 mod sending;
 mod serving;
+mod telling;
 mod turning;
 
 pub use laws::served_links_are_closed;

@@ -86,6 +86,7 @@ module _ (setup : NodeSetup) (who : ℕ) (log : NodeLog) (link : LinkTold)
               past_is = refl;
               others = [];
               asks_are = ap (λ (es : List EventKind). reverse es ++ []) (sym silent);
+              whole = tt;
               cause = tt;
               closed = ap (λ found. close_of found) (sym (none_open past who silent));
               none_open = none_open past who silent;

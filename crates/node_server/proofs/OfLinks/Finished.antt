@@ -214,6 +214,7 @@ module _ (setup : NodeSetup) (who : ℕ) (log : NodeLog) (start used after : Lin
         acted_is = refl;
         serves = serves_on s.taken s.waited s.stands s.same;
         running = running_on s.same;
+        rests = rests_on s.same;
         in_turn = w.in_turn;
         waits = tt;
       }

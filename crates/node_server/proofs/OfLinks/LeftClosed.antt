@@ -1,6 +1,6 @@
 -- A link that was served leaves no association of its seat open: what it gave ends at most once, and
 -- behind all of it the connection has ended.
-use Rattle.std.proofs.Common.{◌≡◌, ◌⊎◌, ℕ, List, [], ◌∷◌, ◌++◌, Option, None, refl, sym, subst}
+use Rattle.std.proofs.Common.{◌≡◌, ℕ, List, [], ◌∷◌, ◌++◌, None, refl, subst}
 use Rattle.std.proofs.Common.{⊎_elim, append_assoc}
 use Rattle.bilateral.specs.Rows.{CentreRows}
 use Rattle.outside.specs.Links.LinkAnswers.{Received, piece, idle, ended, failed, LinkAnswer}

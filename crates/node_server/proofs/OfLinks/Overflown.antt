@@ -73,6 +73,7 @@ module _ (setup : NodeSetup) (who : ℕ) (log : NodeLog) (start used : LinkTold)
         acted_is = refl;
         serves = w.serves;
         running = w.running;
+        rests = t.stands.resting;
         in_turn = w.in_turn;
         waits =
             (count ∙ ap length (waiting_is w), most ∙ limit_is w, over, t.untaken, t.nothing);

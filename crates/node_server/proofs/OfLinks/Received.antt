@@ -19,7 +19,7 @@ use Rattle.conn_service.proofs.OfCourses.Kept.{taken_serves}
 use Rattle.node_server.specs.declared.turn.turn_node.NodeSetup.{NodeSetup}
 use Rattle.node_server.specs.Turn.Logged.{past_in}
 use Rattle.node_server.specs.NodeCalls.{NodeLog}
-use Rattle.node_server.specs.Seats.Serving.{IsServersEnd}
+use Rattle.node_server.specs.Seats.Serving.{IsServersEnd, RestsFor}
 use Rattle.node_server.specs.Links.GivenItems.{items_given, items_of, MayGoOn}
 use Rattle.node_server.specs.Links.LinkUses.{HasHeard, UsesLink}
 use Rattle.node_server.specs.Links.Receiving.{ReceivesOnce}
@@ -134,13 +134,13 @@ module _ (setup : NodeSetup) (who : ℕ) (log : NodeLog) (start used after : Lin
   given_up : (new : Talking) (end : ConnEnd) (has_failed : Bool) → IsServersEnd end
       → UsesLink used after t.stands.way.now (with_answer received t.stands.way.now)
       (next_answer received t.stands.way.now ∷ []) [] has_failed
-      → HasFailedOnly end has_failed
+      → HasFailedOnly end has_failed → RestsFor end v
       → HasActedOn end (items_of (t.stands.way.given ++ next_answer received t.stands.way.now ∷ []))
       (items_of t.stands.way.given)
       → WaitsToLeave end (limit_over setup.centre (past_in log) who) after
       (with_answer received t.stands.way.now) (pending_of v)
       → new ≡ v → IsToLeave setup who log start after new end
-  given_up new end has_failed by_server uses fails acted waits same =
+  given_up new end has_failed by_server uses fails rests acted waits same =
       let w = t.stands.way in
       subst (λ (x : Talking). IsToLeave setup who log start after x end) (sym same) (record {
         by_server = by_server;
@@ -155,6 +155,7 @@ module _ (setup : NodeSetup) (who : ℕ) (log : NodeLog) (start used after : Lin
         acted_is = acted;
         serves = w.serves;
         running = w.running;
+        rests = rests;
         in_turn = in_turn_more;
         waits = waits;
       })
@@ -184,7 +185,7 @@ module _ (setup : NodeSetup) (who : ℕ) (log : NodeLog) (start used after : Lin
       ∙ ap (λ (l : List Item). items_of w.given ++ l) r.taken_in.0
       ∙ append-nil (items_of w.given) in
       given_up setup who log start used after v t r.received new conn_ends.LinkFault true tt r.uses
-      refl acted tt r.taken_in.1
+      refl t.stands.resting acted tt r.taken_in.1
 
   pub memory_leaves : ((first : LinkAnswers) → HasHeard used first
       → ReceivesOnce used after first v new Memory)
@@ -198,4 +199,4 @@ module _ (setup : NodeSetup) (who : ℕ) (log : NodeLog) (start used after : Lin
       items_push w.given (next_answer r.received w.now)
       ∙ ap (λ (l : List Item). items_of w.given ++ l) i.1 in
       given_up setup who log start used after v t r.received new conn_ends.Memory false tt r.uses
-      refl (inr (i.0, acted)) tt i.2
+      refl tt (inr (i.0, acted)) tt i.2

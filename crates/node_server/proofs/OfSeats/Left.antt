@@ -24,7 +24,7 @@ use Rattle.tase_conn.specs.declared.stage.ConnEnd.{ConnEnd}
 use Rattle.tase_conn.specs.declared.stage.ConnEnd.TheVariants as conn_ends
 use Rattle.tase_conn.specs.declared.stage.Progress.{Progress}
 use Rattle.tase_conn.specs.declared.stage.Progress.TheVariants as progresses
-use Rattle.tase_conn.specs.Talking.{Talking, pending_of, is_open_stage, MayLeave}
+use Rattle.tase_conn.specs.Talking.{Talking, pending_of, is_open_stage, MayLeave, IsResting}
 use Rattle.tase_conn.specs.Places.{KeepsPlace, Runs, Reach}
 use Rattle.tase_conn.specs.Leaving.{IsLeft}
 use Rattle.tase_conn.proofs.LastTurns.{goes_front}
@@ -33,12 +33,13 @@ use Rattle.conn_service.specs.Courses.Cutting.{HasLeft, HasSaidSome, HasShut, pa
 use Rattle.conn_service.proofs.OfCourses.Left.{given_up, stands_by}
 use Rattle.conn_service.proofs.OfCourses.Leftover.{was_left}
 use Rattle.conn_service.proofs.OfCourses.Seats.{goes_at}
-use Rattle.conn_service.proofs.OfCourses.Served.{begins_turns}
+use Rattle.conn_service.proofs.OfCourses.Served.{begins_turns, has_served}
 use Rattle.conn_service.specs.Served.{with_closed}
-use Rattle.conn_service.specs.Sends.{IsCutFor, IsSaidByEnd, IsFrontOf}
+use Rattle.conn_service.specs.Sends.{IsCutFor, IsSaidByEnd, IsFrontOf, IsWholeFor}
 use Rattle.conn_service.specs.Attending.{IsServed, IsParting, closing_said}
 use Rattle.conn_service.proofs.Closed.{said_in_part}
-use Rattle.node_server.specs.Seats.Serving.{IsCutBySeat, IsServersEnd, IsShut, ClosesOverAll}
+use Rattle.node_server.specs.Seats.Serving.{IsCutBySeat, IsServersEnd, RestsFor, IsShut}
+use Rattle.node_server.specs.Seats.Serving.{ClosesOverAll}
 use Rattle.node_server.proofs.OfSeats.Shut.{cut_shut}
 
 -- ---- what was said
@@ -102,12 +103,18 @@ servers_cause (conn_ends.Refused fault) setup past who items refusal is = absurd
 
 -- ---- the events
 
--- those so far are the first that the input asks
-front_of : (rows : CentreRows) (past : Past) (who : ℕ) (items : List Item) (said : List ℕ)
+-- those so far are the first that the input asks, and all of them where it is given up for its link
+record Front (rows : CentreRows) (past : Past) (who : ℕ) (items : List Item) (end : ConnEnd)
+    : Type 0 where
+  rest : List EventKind
+  asks : asks_of rows items ≡ reverse (events_by who past) ++ rest
+  whole : IsWholeFor end rest
+
+some_front : (rows : CentreRows) (past : Past) (who : ℕ) (items : List Item) (said : List ℕ)
     (v : Talking) → (s : Serves rows past who items said None v)
     → v.progress ≡ progresses.Running askeds.Nothing
     → (rest : List EventKind) × (asks_of rows items ≡ reverse (events_by who past) ++ rest)
-front_of rows past who items said v s idle =
+some_front rows past who items said v s idle =
     let r : Runs rows items s.told s.turns askeds.Nothing v = goes_at s.stands idle in
     let f = begins_turns rows items s.told s.turns askeds.Nothing v r in (
       asks_behind rows s.turns (up_to_last rows f.0),
@@ -118,6 +125,32 @@ front_of rows past who items said v s idle =
           ∙ ap (λ (es : List EventKind). es ++ asks_behind rows s.turns (up_to_last rows f.0))
           (ap (λ (ts : List Turn). asks_behind rows [] ts) s.are ∙ sym s.asked),
     )
+
+all_asked : (rows : CentreRows) (past : Past) (who : ℕ) (items : List Item) (said : List ℕ)
+    (v : Talking) → Serves rows past who items said None v → IsResting v
+    → asks_of rows items ≡ reverse (events_by who past) ++ []
+all_asked rows past who items said v s at =
+    sym (has_served rows past who items said v s at).asked
+    ∙ sym (append-nil (reverse (events_by who past)))
+
+front_of : (end : ConnEnd) (rows : CentreRows) (past : Past) (who : ℕ) (items : List Item)
+    (said : List ℕ) (v : Talking) → IsServersEnd end → RestsFor end v
+    → Serves rows past who items said None v → v.progress ≡ progresses.Running askeds.Nothing
+    → Front rows past who items end
+front_of conn_ends.LinkFault rows past who items said v is at s idle =
+    record { rest = []; asks = all_asked rows past who items said v s at; whole = refl }
+front_of (conn_ends.Overflow pending limit) rows past who items said v is at s idle =
+    record { rest = []; asks = all_asked rows past who items said v s at; whole = refl }
+front_of conn_ends.Memory rows past who items said v is at s idle =
+    let f = some_front rows past who items said v s idle in
+    record { rest = f.0; asks = f.1; whole = tt }
+front_of conn_ends.Stopped rows past who items said v is at s idle = absurd is
+front_of (conn_ends.Full weight limit) rows past who items said v is at s idle = absurd is
+front_of (conn_ends.TooLong len detail) rows past who items said v is at s idle = absurd is
+front_of conn_ends.Finished rows past who items said v is at s idle = absurd is
+front_of conn_ends.PeerEnd rows past who items said v is at s idle = absurd is
+front_of conn_ends.Declined rows past who items said v is at s idle = absurd is
+front_of (conn_ends.Refused fault) rows past who items said v is at s idle = absurd is
 
 -- ---- given up
 
@@ -148,26 +181,26 @@ left_parting rows past who end old new idle stays left x = (
 )
 
 pub left_shut : (setup : Setup) (past after : Past) (who : ℕ) (items : List Item) (said : List ℕ)
-    (end : ConnEnd) (old between new : Talking) → IsServersEnd end
+    (end : ConnEnd) (old between new : Talking) → IsServersEnd end → RestsFor end old
     → old.progress ≡ progresses.Running askeds.Nothing → KeepsPlace old between
     → IsLeft end old between → ClosesOverAll setup.centre who between new → IsShut who past after
     → Serves setup.centre past who items said None old
     → IsCutBySeat setup who items said end old after new
-left_shut setup past after who items said end old between new servers idle stays left closes shut
-    s =
+left_shut setup past after who items said end old between new servers rests idle stays left
+    closes shut s =
     let rows = setup.centre in
     let more = left_said old.stage old.course end in
     let closing = closing_said between end in
     let c = closes past true end old.course.standing items (said ++ more)
     (given_left rows past who items said end old between idle stays left s) in
     let l = stands_by (is_open_stage old.stage) end old between refl left in
-    let f = front_of rows past who items said old s idle in
+    let f = front_of end rows past who items said old servers rests s idle in
     cut_shut setup past after who items said end old new
     (record {
       added = more ++ closing;
       pending = c.pending ∙ ap (λ (os : List ℕ). os ++ closing) l.pending
           ∙ append_assoc (pending_of old) more closing;
-    }) c.ended f.0 f.1 (servers_cause end setup past who items _ servers)
+    }) c.ended f.rest f.asks f.whole (servers_cause end setup past who items _ servers)
     (subst (λ (os : List ℕ). IsSaidByEnd items (Some end) os
     (link_octets rows (with_closed who past) who items)) (append_assoc said more closing)
     (said_by end setup (with_closed who past) who items ((said ++ more) ++ closing)

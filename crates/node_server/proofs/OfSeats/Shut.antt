@@ -25,7 +25,9 @@ use Rattle.conn_service.specs.Courses.Serving.{AreOthers}
 use Rattle.conn_service.proofs.OfCourses.Seats.{others_none, others_seat, others_sent, opened_here, seat_opened}
 use Rattle.conn_service.proofs.OfCourses.Seats.{event_here, at_seat}
 use Rattle.conn_service.specs.Served.{with_closed}
-use Rattle.conn_service.specs.Sends.{IsCutFor, IsSaidByEnd, first_refused, close_of}
+use Rattle.conn_service.specs.Sends.{IsCutFor, IsSaidByEnd, IsWholeFor, first_refused}
+use Rattle.conn_service.specs.Sends.{close_of}
+use Rattle.conn_service.proofs.Closed.{node_whole}
 use Rattle.conn_service.specs.Attending.{AddsPending, IsCut}
 use Rattle.node_server.specs.Seats.Serving.{IsCutBySeat, IsCutByNode, IsShut}
 
@@ -111,12 +113,13 @@ shut_later past after who h = by (association_in past who) refl
 pub cut_shut : (setup : Setup) (past after : Past) (who : ℕ) (items : List Item) (said : List ℕ)
     (end : ConnEnd) (old new : Talking) (adds : AddsPending old new)
     → new.progress ≡ progresses.Cut end → (others : List EventKind)
-    → asks_of setup.centre items ≡ reverse (events_by who past) ++ others
+    → asks_of setup.centre items ≡ reverse (events_by who past) ++ others → IsWholeFor end others
     → IsCutFor setup past who items end (first_refused setup past who others)
     → IsSaidByEnd items (Some end) (said ++ adds.added)
     (link_octets setup.centre (with_closed who past) who items)
     → IsShut who past after → IsCutBySeat setup who items said end old after new
-cut_shut setup past after who items said end old new adds ended others asks cause told shut =
+cut_shut setup past after who items said end old new adds ended others asks whole cause told
+    shut =
     let l = shut_later past after who shut in
     record {
       adds = adds;
@@ -127,6 +130,7 @@ cut_shut setup past after who items said end old new adds ended others asks caus
         past_is = l.is;
         others = others;
         asks_are = asks;
+        whole = whole;
         cause = cause;
         closed = l.closed;
         none_open = l.none;
@@ -143,8 +147,8 @@ abbrev pub node_shut : (setup : Setup) (past after : Past) (who : ℕ) (items : 
 node_shut setup past after who items said old new c shut = (
   c.end,
   c.by_node,
-  cut_shut setup past after who items said c.end old new c.adds c.ended c.others c.asks_are c.cause
-      c.said_is shut,
+  cut_shut setup past after who items said c.end old new c.adds c.ended c.others c.asks_are
+      (node_whole c.end c.others c.by_node) c.cause c.said_is shut,
 )
 
 -- where none is open there is nothing to close

@@ -13,15 +13,16 @@ use Rattle.bilateral.proofs.centre.Centre.TheSendSync as centre
 use Rattle.tase_views.proofs.tag.DeviceTag.TheSendSync as tag
 use Rattle.tase_views.specs.contracts.call.Call as call
 use Rattle.tase_views.specs.contracts.event.Event as event
-use Rattle.node_core.proofs.hub.Hub.TheSendSync as hub
-use Rattle.node_core.proofs.log.Log.TheSendSync as log
+use Rattle.node_core.proofs.node.hub.Hub.TheSendSync as hub
+use Rattle.node_core.proofs.node.log.Log.TheSendSync as log
 use Rattle.tase_views.specs.contracts.reply.Report as report
 use Rattle.transfer_sets.proofs.bank.SlotBank.TheSendSync as bank
+use Rattle.transfer_sets.proofs.due_index.DueIndex.TheSendSync as due_index
 use Rattle.data_sets.proofs.book.SetBook.TheSendSync as book
-use Rattle.node_core.specs.contracts.associations.Association as association
-use Rattle.node_core.specs.contracts.associations.Associations as associations
-use Rattle.node_core.specs.contracts.peer.Peer as peer
-use Rattle.node_core.specs.contracts.parts.Parts as parts
+use Rattle.node_core.specs.contracts.slots.associations.Association as association
+use Rattle.node_core.specs.contracts.slots.associations.Associations as associations
+use Rattle.node_core.specs.contracts.node.peer.Peer as peer
+use Rattle.node_core.specs.contracts.node.parts.Parts as parts
 use Rattle.node_core.specs.contracts.node.Node as node
 use Rattle.node_core.specs.contracts.node.Node.TheInside as inside
 use Rattle.node_server.specs.contracts.turn.turn_node.TurnNode as turn
@@ -61,7 +62,7 @@ peer_send : IsSend peer.the_row
 peer_send = search (associations_send, book.the_send, bank.the_send, sendable, crosses) depth 20
 
 parts_send : IsSend parts.the_row
-parts_send = search (peer_send, sendable, crosses) depth 20
+parts_send = search (peer_send, due_index.the_send, sendable, crosses) depth 20
 
 inside_send : IsSend inside.the_row
 inside_send = declared_send

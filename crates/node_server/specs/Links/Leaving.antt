@@ -12,7 +12,7 @@ use Rattle.conn_service.specs.Courses.Serving.{Serves}
 use Rattle.node_server.specs.declared.turn.turn_node.NodeSetup.{NodeSetup}
 use Rattle.node_server.specs.Turn.Logged.{past_in}
 use Rattle.node_server.specs.NodeCalls.{NodeLog}
-use Rattle.node_server.specs.Seats.Serving.{IsServersEnd}
+use Rattle.node_server.specs.Seats.Serving.{IsServersEnd, RestsFor}
 use Rattle.node_server.specs.Links.GivenItems.{items_of}
 use Rattle.node_server.specs.Links.LinkUses.{UsesLink}
 use Rattle.node_server.specs.Links.ServedLinks.{CameBehind, HasActedOn, WaitAtEnd, limit_over}
@@ -44,6 +44,7 @@ pub record IsToLeave (setup : NodeSetup) (who : ℕ) (log : NodeLog) (link used 
   pub acted_is : HasActedOn end (items_of given) acted
   pub serves : Serves setup.centre (past_in log) who acted (taken ++ pending_of v) None v
   pub running : v.progress ≡ progresses.Running askeds.Nothing
+  pub rests : RestsFor end v
   pub in_turn : CameBehind setup.centre who first.sent log [] given
   pub waits : WaitsToLeave end (limit_over setup.centre (past_in log) who) used now (pending_of v)
 

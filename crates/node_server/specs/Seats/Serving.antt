@@ -116,6 +116,12 @@ IsServersEnd conn_ends.PeerEnd = ⊥
 IsServersEnd conn_ends.Declined = ⊥
 IsServersEnd (conn_ends.Refused fault) = ⊥
 
+-- a connection that is given up for its link has acted on all that the link gave
+abbrev pub RestsFor : ConnEnd → Talking → Type 0
+RestsFor conn_ends.LinkFault v = IsResting v
+RestsFor (conn_ends.Overflow pending limit) v = IsResting v
+RestsFor end v = Unit {0}
+
 -- ---- its steps
 
 -- over every past over which the connection was left: it has ended, as behind the close of its

@@ -13,6 +13,7 @@ ghost use Rattle.node_server.specs.Links.Turns.{IsInTurn, IsStuck, IsToSendBy, T
 use crate::links::link_server::LinkServer;
 use crate::links::receiving::PIECE;
 use crate::links::sending::{SendsEnd, send_pending};
+use crate::links::telling::note_end;
 use crate::links::turning::Turn;
 use crate::turn::TurnNode;
 use bilateral::Centre;
@@ -44,7 +45,12 @@ pub fn serve_connection<R: Wait, L: Link>(
     ensures serves { ServesLink shared.now.setup seat.old seat.new.front (L.told link.old)
         (L.told link.new) result }
 {
-    let server = LinkServer { rt, alloc, shared };
+    let server = LinkServer {
+        rt,
+        alloc,
+        centre,
+        shared,
+    };
     let end = server.serve(centre, seat, link);
     link.close();
     server.stop_if_full(seat, end);
@@ -68,12 +74,15 @@ impl<'a, R: Wait> LinkServer<'a, R> {
             (L.told link.old) (L.told link.new) result }
     {
         let Ok(mut room) = vec![in self.alloc; 0u8; PIECE] else {
+            note_end(link, self.centre, None, ConnEnd::Memory);
             return ConnEnd::Memory;
         };
         let Ok(centre) = centre.clone() else {
+            note_end(link, self.centre, None, ConnEnd::Memory);
             return ConnEnd::Memory;
         };
         let Ok(mut conn) = Conn::new(self.alloc, centre) else {
+            note_end(link, self.centre, None, ConnEnd::Memory);
             return ConnEnd::Memory;
         };
         self.take_turns(seat, &mut conn, link, &mut room)
@@ -101,6 +110,7 @@ impl<'a, R: Wait> LinkServer<'a, R> {
     {
         for _ in self.rt.forever() {
             if let Some(end) = self.take_turn(seat, conn, link, room) {
+                note_end(link, self.centre, conn.peer(), end);
                 return end;
             }
         }

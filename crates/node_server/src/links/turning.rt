@@ -9,6 +9,7 @@ ghost use Rattle.node_server.specs.Links.Turning.{ComesTo};
 
 use crate::links::link_server::LinkServer;
 use crate::links::receiving::{Intake, PIECE, receive};
+use crate::links::telling::note_peer;
 use crate::seats::{attend_seat, leave_seat};
 use crate::turn::TurnNode;
 use outside::links::Link;
@@ -55,12 +56,17 @@ impl<'a, R: Wait> LinkServer<'a, R> {
                 self.leave_for(seat, conn, ConnEnd::Memory);
                 Turn::ToSend(Some(ConnEnd::Memory))
             }
-            Intake::Taken => Turn::ToSend(self.attend(seat, conn)),
+            Intake::Taken => Turn::ToSend(self.attend(seat, conn, link)),
         }
     }
 
     /// Has the node act on what was taken in. How the connection has ended, if it has.
-    pub(crate) fn attend(&self, seat: &mut Seat<TurnNode>, conn: &mut Conn) -> Option<ConnEnd>
+    pub(crate) fn attend<L: Link>(
+        &self,
+        seat: &mut Seat<TurnNode>,
+        conn: &mut Conn,
+        link: &L,
+    ) -> Option<ConnEnd>
         requires of { IsOf self.now.shared.now seat.old }
         requires way { (start : LinkTold) × (used : LinkTold)
             × IsUnderWay self.now.shared.now.setup seat.old.number seat.old.front start used
@@ -72,7 +78,9 @@ impl<'a, R: Wait> LinkServer<'a, R> {
             → IsToSendBy result self.now.shared.now.setup seat.old.number seat.new.front start used
             conn.new }
     {
+        let before = conn.peer();
         attend_seat(self.rt, self.alloc, self.shared, seat, conn);
+        note_peer(link, self.centre, before, conn.peer());
         conn.ended().copied()
     }
 

@@ -13,7 +13,8 @@ ghost use Rattle.conn_service.specs.Attending.{SendsOn};
 ghost use Rattle.share_turn.specs.Public.{IsOf, at};
 ghost use Rattle.node_server.specs.Turn.Logged.{past_in};
 ghost use Rattle.node_server.specs.Seats.Serving.{shared_setup, SeatAttends, IsCutBySeat, SeatTakes};
-ghost use Rattle.node_server.specs.Seats.Serving.{IsServersEnd, IsShut, ClosesOverAll, ClosesAsked};
+ghost use Rattle.node_server.specs.Seats.Serving.{IsServersEnd, RestsFor, IsShut};
+ghost use Rattle.node_server.specs.Seats.Serving.{ClosesOverAll, ClosesAsked};
 ghost use Rattle.node_server.specs.Seats.Serving.{WantsOfSeat, AnswersOfSeat, GoesOrShuts};
 ghost use Rattle.node_server.specs.Seats.Peers.{HasItsPeer, KeepsPeer};
 
@@ -63,7 +64,8 @@ pub fn attend_seat<R: Wait>(
 }
 
 /// Gives a connection up that goes on, for an end that isn't the node's: its association is closed,
-/// where one is open, under this seat's number.
+/// where one is open, under this seat's number. For its link it is given up only once the node has
+/// acted on all that the link gave.
 pub fn leave_seat<R: Wait>(
     rt: &R,
     alloc: Global,
@@ -77,6 +79,7 @@ pub fn leave_seat<R: Wait>(
         conn.old }
     requires running { conn.old.progress ≡ progresses.Running askeds.Nothing }
     requires end { IsServersEnd end }
+    requires rests { RestsFor end conn.old }
     ensures same { seat.new ≡ at seat.old seat.new.front }
     ensures seen { IsPrefix seat.old.front seat.new.front }
     ensures left { (items : List Item) (said : List ℕ)

@@ -1,4 +1,4 @@
-use Rattle.std.proofs.Common.{reverse, Ok, Err, refl, inl, inr}
+use Rattle.std.proofs.Common.{reverse, refl, inl, inr}
 use Rattle.conn_service.proofs.Going.{asking_told, asking_placed, asking_refused}
 use Rattle.conn_service.proofs.Memory.{unnoted_cut, unnoted_parting, unnoted_free, stays_placed}
 use Rattle.conn_service.proofs.Refused.{refused_cut, parting_on}

@@ -1,4 +1,4 @@
-use Rattle.std.proofs.Common.{reverse, Option, Some, None, refl, subst}
+use Rattle.std.proofs.Common.{reverse, Option, refl, subst}
 use Rattle.tase_views.specs.declared.event.EventKind.{EventKind}
 use Rattle.tase_conn.specs.Wanting.{Wants, WantsSo}
 use Rattle.conn_service.proofs.Going.{parting_free, parting_placed, parting_wants, parting_over}

@@ -26,8 +26,8 @@ pub returns-clause-left : goal.returns-clause-left
 returns-clause-left g c = λ items said s.
     left_shut (shared_setup c.args.shared.now.setup) (past_in c.args.seat.now.front)
     (past_in c.close.new.seat.front) c.args.seat.now.number items said c.args.end c.args.conn.now
-    c.give_up.new.self c.close.new.conn c.requires.end c.requires.running c.give_up.ensures.stands
-    c.give_up.ensures.left c.close.ensures.closes c.close.ensures.shuts s
+    c.give_up.new.self c.close.new.conn c.requires.end c.requires.rests c.requires.running
+    c.give_up.ensures.stands c.give_up.ensures.left c.close.ensures.closes c.close.ensures.shuts s
 
 pub returns-clause-sends : goal.returns-clause-sends
 returns-clause-sends g c = λ items said s.

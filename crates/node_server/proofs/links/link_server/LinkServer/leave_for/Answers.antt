@@ -13,6 +13,9 @@ leave_seat-requires-clause-running g c = c.requires.leaves.2.running
 pub leave_seat-requires-clause-end : goal.leave_seat-requires-clause-end
 leave_seat-requires-clause-end g c = c.requires.leaves.2.by_server
 
+pub leave_seat-requires-clause-rests : goal.leave_seat-requires-clause-rests
+leave_seat-requires-clause-rests g c = c.requires.leaves.2.rests
+
 pub returns-clause-left : goal.returns-clause-left
 returns-clause-left g c = λ start used h.
     left_for c.args.self.now.shared.now.setup c.args.seat.now.number c.args.seat.now.front
