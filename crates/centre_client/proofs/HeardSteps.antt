@@ -108,7 +108,7 @@ handed-later n rows (Some input) s lt =
     moved-later n rows (input_heeded rows input s.playing).0 (input_heeded rows input s.playing).1
     s lt
 
-step-later : (n : ℕ) (rows : CentreRows) (t : Arrival) (s : ClientState) → n ≤ length s.told
+pub step-later : (n : ℕ) (rows : CentreRows) (t : Arrival) (s : ClientState) → n ≤ length s.told
     → SaysLater n s.role (client_step rows t s).state.role
 step-later n rows t s le = handed-later n rows (stack_in t) (with_told t s)
     (omega (arith, length-append s.told (t ∷ [])))
@@ -117,7 +117,7 @@ one_title : (title other : Option (List ℕ)) (count : ℕ)
     → calling title (Some count) ≡ calling other None → Unit {0} → ⊥
 one_title title other count e u = absurd cc
 
-later-then : (n : ℕ) (a b c : Role) → SaysLater n a b → SaysLater n b c → SaysLater n a c
+pub later-then : (n : ℕ) (a b c : Role) → SaysLater n a b → SaysLater n b c → SaysLater n a c
 later-then n a b c (inl e) (inl f) = inl (f ∙ e)
 later-then n a b c (inl e) (inr g) = inr (record {
   title = g.title;
@@ -197,7 +197,7 @@ came t = Ok t
 abbrev breaks_off : StackFault → Came
 breaks_off f = Err f
 
-alike : (one other : Role) (before : List Arrival) (m : Message)
+pub alike : (one other : Role) (before : List Arrival) (m : Message)
     → expecting_after one before ≡ expecting_after other before
     → arrival_by one before m ≡ arrival_by other before m
 alike one other before (asks r) e = refl

@@ -5,6 +5,9 @@ pub mod PlayedOn
 pub mod HeardSteps
 pub mod Guarded
 pub mod Numbering
+pub mod WaitsOn
+pub mod WritesMeant
+pub mod Exchanged
 pub mod ShortRequests
 pub mod DeviceRequests
 pub mod StepsOn

@@ -1,6 +1,6 @@
 -- Each step of a script that is read may be played.
 use Rattle.std.proofs.Common.{◌≡◌, ℕ, ℤ, ◌<◌, Bool, true, false, List, [], ◌∷◌, length, map}
-use Rattle.std.proofs.Common.{Option, Some, None, Result, Ok, Err, codes, refl, subst}
+use Rattle.std.proofs.Common.{Option, Some, None, Result, Ok, Err, codes, refl, sym, subst}
 use Rattle.std.specs.Prelude.{IfOk, MatchResult, if◌then◌else◌, is_some, option_and_then, nat_le}
 use Rattle.std.specs.List.{All}
 use Rattle.std.specs.Str.{bytes_eq}
@@ -8,12 +8,13 @@ use Rattle.std.proofs.lemmas.Option.{option_and_then_some, same_Some}
 use Rattle.std.proofs.lemmas.List.Quantifiers.{position-Some}
 use Rattle.std.proofs.lemmas.List.Elements.{All-cons, All-nil}
 use Rattle.std.proofs.lemmas.Bool.{leb-true}
+use Rattle.std.proofs.lemmas.Slice.Eq.{bytes_eq-Decides}
 use Rattle.plain_text.specs.Numbers.{if_passes, number_in, number_up_to}
 use Rattle.plain_text.specs.Words.{words_in}
 use Rattle.bilateral.specs.Words.Devices.{short_in}
 use Rattle.bilateral.specs.declared.rows.DeviceRow.{DeviceRow}
 use Rattle.bilateral.specs.declared.rows.Table.{Table}
-use Rattle.bilateral.specs.Rows.{CentreRows, table_of, place_of_peer, place_of_device}
+use Rattle.bilateral.specs.Rows.{CentreRows, table_of, device_of, place_of_peer, place_of_device}
 use Rattle.bilateral.specs.Rows.{place_of_control, no_device, no_table}
 use Rattle.tase_views.specs.declared.call.CallKind.{CallKind}
 use Rattle.texts.specs.Journal.CallIn.{call_in}
@@ -66,15 +67,20 @@ controlled-there : (rows : CentreRows) (peer : ℕ) (name : List ℕ) (device : 
     → controlled_device rows peer name ≡ Some device
     → (device < length rows.devices)
     × (is_some (place_of_control (table_of rows peer) device) ≡ true)
+    × (controlled_device rows peer (device_of rows device).name ≡ Some device)
 controlled-there rows peer name device is =
     option_and_then_some
     (if_passes (λ d. is_some (place_of_control (table_of rows peer) d)))
     (place_of_device rows name) device is (λ d at passes.
     let p = kept (is_some (place_of_control (table_of rows peer) d)) d device passes in
     let found = position-Some (λ (row : DeviceRow). bytes_eq row.name name) rows.devices d
-    no_device at in (
+    no_device at in
+    let named : (device_of rows d).name ≡ name =
+    (bytes_eq-Decides (device_of rows d).name name).0 found.1 in (
       subst (λ (x : ℕ). x < length rows.devices) p.0 found.0,
       subst (λ (x : ℕ). is_some (place_of_control (table_of rows peer) x) ≡ true) p.0 p.1,
+      subst (λ (l : List ℕ). controlled_device rows peer l ≡ Some device)
+          (sym (subst (λ (x : ℕ). (device_of rows x).name ≡ name) p.0 named)) is,
     ))
 
 operate-plays : (rows : CentreRows) (peer : ℕ) (words : List (List ℕ)) (kind : StepKind)

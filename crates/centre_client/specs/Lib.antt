@@ -7,4 +7,5 @@ pub mod Hearings
 pub mod Clients
 pub mod Callers
 pub mod Guards
+pub mod Checkbacks
 pub mod Service

@@ -1,4 +1,5 @@
 pub mod LinkOctets
+pub mod Terminals
 pub mod Sends
 pub mod Talks
 pub mod Runs

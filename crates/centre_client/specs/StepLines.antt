@@ -132,12 +132,13 @@ abbrev pub step_in : CentreRows → ℕ → List ℕ → Result StepKind ScriptW
 step_in rows peer line = step_of_spaced rows peer (words_in line)
 
 -- a step may be played: its call has a service, operates nothing that is to be selected and is
--- short enough by whichever number it is said; its device is one of the table's; it waits for some
--- reports
+-- short enough by whichever number it is said; its device is one of the table's, and the one with
+-- its name; it waits for some reports
 abbrev pub IsStep : CentreRows → ℕ → StepKind → Type 0
 IsStep rows peer (kinds.Call call) =
     (is_odd call ≡ false) × (writes_guarded rows peer call ≡ false) × (is_long call ≡ false)
 IsStep rows peer (kinds.Operate device value) =
     (device < length rows.devices)
     × (is_some (place_of_control (table_of rows peer) device) ≡ true)
+    × (controlled_device rows peer (device_of rows device).name ≡ Some device)
 IsStep rows peer (kinds.Wait reports) = (1 ≤ reports) × (reports ≤ WAIT_LIMIT)

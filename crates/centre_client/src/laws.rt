@@ -11,8 +11,9 @@ ghost use Rattle.tase_views.specs.declared.reply.ReplyKind.{ReplyKind as AnyRepl
 ghost use Rattle.centre_client.specs.declared.script.Script.{Script as AnyScript};
 ghost use Rattle.centre_client.specs.declared.end.ClientEnd.{ClientEnd as AnyEnd};
 ghost use Rattle.centre_client.specs.Scripts.{IsScript};
+ghost use Rattle.centre_client.specs.Checkbacks.{SaysChecked};
 ghost use Rattle.centre_client.specs.Clients.{ClientStep, HasHeard, client_behind, step_then};
-ghost use Rattle.centre_client.specs.Clients.{broken_step};
+ghost use Rattle.centre_client.specs.Clients.{broken_step, client_of};
 ghost use Rattle.centre_client.specs.Plays.{Playing, IsPlay, at_call, begun, reply_heeded};
 ghost use Rattle.centre_client.specs.Plays.{report_heeded, concluded_for, request_behind};
 ghost use Rattle.centre_client.specs.declared.steps.TheConstants.{LAST_INVOKE};
@@ -53,11 +54,14 @@ pub fn octets_make_a_client()
 {}
 
 /// The value of a device that isn't direct is written only when the reply to its select was heard,
-/// whose one outcome is the table's checkback.
+/// whose one outcome is the table's checkback: so it is at each message, and so of all octets that
+/// a client says, whatever octets have come.
 pub fn writes_are_checked_back()
-    ensures { (rows : AnyRows) (input : AnyInput) (p : Playing)
+    ensures message { (rows : AnyRows) (input : AnyInput) (p : Playing)
         → (input_heeded rows input p).1 ≡ Say → AwaitsWrite rows (input_heeded rows input p).0
         → IsCheckedBack rows input p (input_heeded rows input p).0 }
+    ensures all { (rows : AnyRows) (script : AnyScript) (octets : List ℕ) → IsScript rows script
+        → SaysChecked rows script octets (client_of rows script octets).said }
 {}
 
 /// The requests that are said have the numbers 1, 2, 3 and so on: until 2,147,483,647 none has one

@@ -4,7 +4,9 @@ mod run_end;
 mod running;
 mod sending;
 mod talking;
+mod terminal;
 
 pub use run_end::RunEnd;
 pub use running::run_client;
 pub use talking::Talk;
+pub use terminal::{LinkTerminal, Terminal};

@@ -4,7 +4,7 @@ ghost use Rattle.std.specs.Vec.Iter.{into_iter_items};
 ghost use Rattle.std.specs.Process.{exit_status};
 ghost use Rattle.tase_main.specs.Starting.{IsWordsFrom, IsStart, Starts, surroundings_of};
 
-use crate::ending::{is_of_connections, tell_end};
+use crate::ending::{tell_end, verb_of};
 use commands::io::Status;
 use job_threads::ThreadSpawner;
 use outside::links::Listener;
@@ -21,7 +21,8 @@ use tase_tool::run;
 use tase_tool::serving::jobs::NodeJob;
 
 /// Runs the words that the system gives, once, and answers the exit status that goes with how the
-/// run ended. An operator is told how a server or a client ended.
+/// run ended. An operator is told how a server or a client ended, and what words there are where
+/// these are no command.
 pub(crate) fn start<R: Threads + Wait + Eprint + Clock + Copy + Send + 'static, O: Outside>(
     rt: &R,
     alloc: Global,
@@ -38,9 +39,9 @@ where
         (surroundings_of (O.told outside.new) spawner.new.told.faults) (exit_status result) }
 {
     let words = words_from(alloc, given);
-    let is_told = is_of_connections(&words);
+    let verb = verb_of(&words);
     let status = run_words(rt, alloc, words, outside, spawner);
-    tell_end(*rt, is_told, status);
+    tell_end(*rt, verb, status);
     ExitCode::from(status)
 }
 

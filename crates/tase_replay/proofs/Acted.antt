@@ -29,6 +29,7 @@ acted_still setup who others past items end a (inr cut) =
             ∙ sym (append_assoc others c.later c.before);
         others = c.others;
         asks_are = c.asks_are;
+        whole = c.whole;
         cause = c.cause;
         closed = others_none who others c.later a ∙ c.closed;
         none_open = others_seat who others past a ∙ c.none_open;

@@ -5,6 +5,7 @@ use Rattle.std.proofs.Common.{append_assoc, take, arith}
 use Rattle.std.specs.Prelude.{if◌then◌else◌}
 use Rattle.std.specs.List.{cons_option}
 use Rattle.std.proofs.lemmas.List.{append-nil, reverse-append, reverse-reverse, map-append}
+use Rattle.std.proofs.lemmas.List.{length-append, take-append-le}
 use Rattle.std.proofs.Math.Seq.{drop-append_seam, take-length}
 use Rattle.std.proofs.lemmas.Bool.{eq-eqb}
 use Rattle.std.proofs.lemmas.List.Elements.{filter_map-append}
@@ -47,7 +48,7 @@ use Rattle.tase_replay.specs.PrintedLines.{ShownToPeer, shown_by}
 use Rattle.tase_replay.specs.Standing.{AreOf}
 use Rattle.tase_replay.specs.Ends.{IsPlayed, IsShown, TakesPart, IsClosing}
 use Rattle.tase_replay.proofs.Taking.{entries_in-append, printed_in-append, shown_by-append}
-use Rattle.tase_replay.proofs.Taking.{shown_by-silent, TakesPart-front}
+use Rattle.tase_replay.proofs.Taking.{shown_by-silent}
 use Rattle.tase_replay.proofs.Served.{served_taken, served_refused, served_ours, all_taken}
 use Rattle.tase_replay.proofs.Served.{events_up_to, left_alone}
 use Rattle.tase_replay.proofs.Entering.{IsPlayed-shown}
@@ -283,72 +284,110 @@ long_so setup scene given taken rest between end fit e asks t =
 
 -- ---- memory was wanting
 
+-- the close of an association, if one is open, is of the seat of what comes next
+closing_first : (who : ℕ) (found : Option Key) (events : List EventKind) (step : Step)
+    → step.who ≡ who
+    → IsClosing false (entries_by who (close_of found)) (entry_steps who events ++ step ∷ [])
+closing_first who None events step e = tt
+closing_first who (Some key) [] step e = (refl, sym e)
+closing_first who (Some key) (event ∷ events) step e = (refl, refl)
+
+-- so where that is the close itself, behind what was taken since
+closing_own : (who : ℕ) (found : Option Key) (between past : Past) (events : List EventKind)
+    → association_in between who ≡ found → (events ≡ [] → past ≡ between)
+    → IsClosing false (entries_by who (close_of found))
+    (entry_steps who (events ++ close_of (association_in past who)))
+closing_own who None between past events is same = tt
+closing_own who (Some key) between past [] is same =
+    subst (λ (found : Option Key). IsClosing false (entries_by who (close_of (Some key)))
+    (entry_steps who (close_of found)))
+    (sym (ap (λ (p : Past). association_in p who) (same refl) ∙ is)) (refl, refl)
+closing_own who (Some key) between past (event ∷ events) is same = (refl, refl)
+
+-- these steps begin with events of a seat; behind them comes a step of it where its association is
+-- open, and closed for want of memory
+record IsBegun (who : ℕ) (taken : List EventKind) (between : Past) (steps : List Step) : Type 0
+  where
+    more : List Step
+    begins : steps ≡ entry_steps who taken ++ more
+    closes : IsClosing false (entries_by who (close_of (association_in between who))) more
+
 -- with the close of an association, if one is open
 begun_cut : (rows : CentreRows) (scene : Scene) (given : SeatItem) (taken : List EventKind)
-    (s : Served) (over : Option ConnEnd) (line : List ℕ) (number : ℕ) → (more : List Step)
-    × (steps_of (play_line line number (linked rows scene given
-    (cut_steps given.who (behind_taken taken s)) (with_closed given.who s.past) over)
-    ends_there) ≡ entry_steps given.who taken ++ more)
-begun_cut rows scene given taken s over line number =
+    (between : Past) (s : Served) (over : Option ConnEnd) (line : List ℕ) (number : ℕ)
+    → IsBegun given.who taken between (steps_of (play_line line number (linked rows scene given
+    (cut_steps given.who (behind_taken taken s)) (with_closed given.who s.past) over) ends_there))
+begun_cut rows scene given taken between s over line number =
     let close = close_of (association_in s.past given.who) in
     let after = with_closed given.who s.past in
     let link : Step = link_step rows scene (behind_link scene after given over) given over in
     let first = entry_steps given.who taken in
     let next = entry_steps given.who (s.taken ++ close) in
-    let all = entry_steps given.who ((taken ++ s.taken) ++ close) ++ link ∷ [] in (
-      next ++ link ∷ [],
-      append-nil (all ++ []) ∙ append-nil all
+    let all = entry_steps given.who ((taken ++ s.taken) ++ close) ++ link ∷ [] in
+    record {
+      more = next ++ link ∷ [];
+      begins = append-nil (all ++ []) ∙ append-nil all
           ∙ ap (λ (es : List EventKind). entry_steps given.who es ++ link ∷ [])
           (append_assoc taken s.taken close)
           ∙ ap (λ (steps : List Step). steps ++ link ∷ [])
           (steps-append given.who taken (s.taken ++ close))
-          ∙ append_assoc first next (link ∷ []),
-    )
+          ∙ append_assoc first next (link ∷ []);
+      closes = closing_first given.who (association_in between given.who) (s.taken ++ close) link
+          refl;
+    }
 
 -- by the end that the answer to the last event brings
 begun_up_to : (rows : CentreRows) (scene : Scene) (given : SeatItem) (end : Option ConnEnd)
-    (taken : List EventKind) (s : Served) (left : Option ConnEnd) (line : List ℕ) (number : ℕ)
-    → (more : List Step) × (steps_of (play_line line number
-    (linked_up_to rows scene given end (behind_taken taken s) left) ends_there)
-    ≡ entry_steps given.who taken ++ more)
-begun_up_to rows scene given end taken s None line number =
+    (taken : List EventKind) (between : Past) (s : Served) (left : Option ConnEnd) (line : List ℕ)
+    (number : ℕ) → IsBegun given.who taken between (steps_of (play_line line number
+    (linked_up_to rows scene given end (behind_taken taken s) left) ends_there))
+begun_up_to rows scene given end taken between s None line number =
     let link : Step = link_step rows scene (behind_link scene s.past given end) given end in
     let first = entry_steps given.who taken in
     let next = entry_steps given.who s.taken in
-    let all = entry_steps given.who (taken ++ s.taken) ++ link ∷ [] in (
-      next ++ link ∷ [],
-      append-nil (all ++ []) ∙ append-nil all
+    let all = entry_steps given.who (taken ++ s.taken) ++ link ∷ [] in
+    record {
+      more = next ++ link ∷ [];
+      begins = append-nil (all ++ []) ∙ append-nil all
           ∙ ap (λ (steps : List Step). steps ++ link ∷ []) (steps-append given.who taken s.taken)
-          ∙ append_assoc first next (link ∷ []),
-    )
-begun_up_to rows scene given end taken s (Some over) line number =
-    begun_cut rows scene given taken s (Some over) line number
+          ∙ append_assoc first next (link ∷ []);
+      closes = closing_first given.who (association_in between given.who) s.taken link refl;
+    }
+begun_up_to rows scene given end taken between s (Some over) line number =
+    begun_cut rows scene given taken between s (Some over) line number
 
 begun_by : (rows : CentreRows) (scene : Scene) (given : SeatItem) (end : Option ConnEnd)
-    (taken : List EventKind) (s : Served) (r : Option StepFault) (line : List ℕ) (number : ℕ)
-    → IsOurs r → (more : List Step)
-    × (steps_of (play_line line number (linked_by rows scene given end (behind_taken taken s) r)
-    ends_there) ≡ entry_steps given.who taken ++ more)
-begun_by rows scene given end taken s None line number ours =
-    begun_up_to rows scene given end taken s s.end line number
-begun_by rows scene given end taken s (Some (faults.Stopped place)) line number ours =
-    begun_cut rows scene given taken s (Some conn_ends.Stopped) line number
-begun_by rows scene given end taken s (Some (faults.HistoryFull weight limit)) line number ours =
-    let close = close_of (association_in s.past given.who) in (
-      entry_steps given.who (s.taken ++ close),
-      ap (λ (es : List EventKind). entry_steps given.who es) (append_assoc taken s.taken close)
-          ∙ steps-append given.who taken (s.taken ++ close),
-    )
-begun_by rows scene given end taken s (Some faults.Memory) line number ours = absurd ours
-begun_by rows scene given end taken s (Some faults.NoAssociation) line number ours = absurd ours
-begun_by rows scene given end taken s (Some faults.Already) line number ours = absurd ours
-begun_by rows scene given end taken s (Some faults.UnknownName) line number ours = absurd ours
-begun_by rows scene given end taken s (Some faults.ClockRange) line number ours = absurd ours
-begun_by rows scene given end taken s (Some (faults.Backward last)) line number ours = absurd ours
-
-closing_one : (who : ℕ) (found : Option Key) → IsClosing false (entries_by who (close_of found))
-closing_one who None = tt
-closing_one who (Some key) = refl
+    (taken : List EventKind) (between : Past) (s : Served) (r : Option StepFault) (line : List ℕ)
+    (number : ℕ) → IsOurs r → (s.taken ≡ [] → s.past ≡ between)
+    → IsBegun given.who taken between (steps_of (play_line line number
+    (linked_by rows scene given end (behind_taken taken s) r) ends_there))
+begun_by rows scene given end taken between s None line number ours same =
+    begun_up_to rows scene given end taken between s s.end line number
+begun_by rows scene given end taken between s (Some (faults.Stopped place)) line number ours same =
+    begun_cut rows scene given taken between s (Some conn_ends.Stopped) line number
+begun_by rows scene given end taken between s (Some (faults.HistoryFull weight limit)) line number
+    ours same =
+    let close = close_of (association_in s.past given.who) in
+    record {
+      more = entry_steps given.who (s.taken ++ close);
+      begins = ap (λ (es : List EventKind). entry_steps given.who es)
+          (append_assoc taken s.taken close)
+          ∙ steps-append given.who taken (s.taken ++ close);
+      closes = closing_own given.who (association_in between given.who) between s.past s.taken
+          refl same;
+    }
+begun_by rows scene given end taken between s (Some faults.Memory) line number ours same =
+    absurd ours
+begun_by rows scene given end taken between s (Some faults.NoAssociation) line number ours same =
+    absurd ours
+begun_by rows scene given end taken between s (Some faults.Already) line number ours same =
+    absurd ours
+begun_by rows scene given end taken between s (Some faults.UnknownName) line number ours same =
+    absurd ours
+begun_by rows scene given end taken between s (Some faults.ClockRange) line number ours same =
+    absurd ours
+begun_by rows scene given end taken between s (Some (faults.Backward last)) line number ours same =
+    absurd ours
 
 -- what comes of a line, by what was taken before, whatever the answer to the last brings
 begun_served : (setup : Setup) (scene : Scene) (given : SeatItem) (taken rest : List EventKind)
@@ -360,17 +399,22 @@ begun_served : (setup : Setup) (scene : Scene) (given : SeatItem) (taken rest : 
     ≡ (reverse (events_by given.who scene.past) ++ taken) ++ rest
     → TakesTo left setup given.who (items_with scene given) scene.past taken between
     → (s : Served) × (served_item setup scene given ≡ behind_taken taken s) × IsOurs s.refusal
+    × (s.taken ≡ [] → s.past ≡ between)
 begun_served setup scene given taken rest between None asked turn asks t =
-    let items = items_with scene given in (
-      served setup given.who items between rest,
+    let items = items_with scene given in
+    let s = served setup given.who items between rest in (
+      s,
       served_so setup scene given taken rest between asked asks t,
       served_ours setup given.who items between rest turn,
+      λ none. past_served setup given.who items between rest
+          ∙ ap (λ (es : List EventKind). reverse (entries_by given.who es) ++ between) none,
     )
 begun_served setup scene given taken rest between (Some end) asked turn asks t = (
   all_taken [] between (Some end),
   served_left setup scene given taken rest between end asked asks t
       ∙ ap (λ (es : List EventKind). all_taken es between (Some end)) (sym (append-nil taken)),
   tt,
+  λ none. refl,
 )
 
 -- the first events were taken, the association was closed, and nothing was printed
@@ -400,13 +444,14 @@ IsPlayed-begun setup line number scene given history now sink taken rest between
     (subst (λ (es : List EventKind). AreInTurn setup.centre es) asks turn)
     (asks ∙ ap (λ (es : List EventKind). es ++ rest) had) t in
     let s : Served = found.0 in
-    let b = begun_by setup.centre scene given (by_peer setup.centre scene given) taken s s.refusal
-    line number found.2 in
-    let same : steps_of (play_line line number (received setup scene given) ends_there)
-    ≡ steps ++ b.0 =
+    let b = begun_by setup.centre scene given (by_peer setup.centre scene given) taken between s
+    s.refusal line number found.2 found.3 in
+    let all = steps ++ b.more in
+    let same : steps_of (play_line line number (received setup scene given) ends_there) ≡ all =
     ap (λ (m : LineMeaning). steps_of (play_line line number m ends_there))
-    (received_so setup scene given (behind_taken taken s) fit found.1) ∙ b.1 in
-    let whole : take (length steps) steps ≡ steps = take-length steps in
+    (received_so setup scene given (behind_taken taken s) fit found.1) ∙ b.begins in
+    let whole : take (length steps) all ≡ steps =
+    take-append-le (length steps) steps b.more (omega arith) ∙ take-length steps in
     let grown : now ≡ (history ++ entries_in steps) ++ entries_by who close =
     grown_so who history now scene.past after (taken ++ close) e f
     (closed ∙ cut_past setup who items scene.past taken between left t)
@@ -414,16 +459,16 @@ IsPlayed-begun setup line number scene given history now sink taken rest between
     (map-append (λ event. entry_by event who) taken close
     ∙ ap (λ (es : List Entry). es ++ entries_by who close) (sym (entries_steps who taken)))
     ∙ sym (append_assoc history (entries_in steps) (entries_by who close)) in
-    subst (λ (these : List Step). TakesPart these history now sink sink false) (sym same)
-    (TakesPart-front steps b.0 history now sink sink false (record {
+    subst (λ (these : List Step). TakesPart these history now sink sink false) (sym same) (record {
       count = length steps;
-      within = omega arith;
+      within = omega (arith, length-append steps b.more);
       closing = entries_by who close;
-      closes = closing_one who (association_in between who);
+      closes = subst (λ (these : List Step). IsClosing false (entries_by who close) these)
+          (sym (drop-append_seam steps b.more)) b.closes;
       entries = grown ∙ ap (λ (these : List Step). (history ++ entries_in these)
           ++ entries_by who close) (sym whole);
-      shown = AppendsPart-none sink (printed_in (take (length steps) steps));
-    }))
+      shown = AppendsPart-none sink (printed_in (take (length steps) all));
+    })
 
 -- ---- the history is full
 

@@ -8,7 +8,7 @@ use Rattle.conn_service.specs.TaseConn.Talking.{Talking}
 use Rattle.tase_views.specs.Setup.{Setup}
 use Rattle.tase_views.specs.declared.event.Entry.{Entry}
 use Rattle.tase_views.specs.Outcomes.{refusal_of}
-use Rattle.conn_service.proofs.NodeCore.Outcomes.{reverse_push}
+use Rattle.conn_service.proofs.NodeCore.OfNode.Outcomes.{reverse_push}
 use Rattle.tase_replay.specs.declared.entries.LineRequest.{LineRequest}
 use Rattle.tase_replay.specs.declared.links.Seats.{Seats}
 use Rattle.tase_replay.specs.Links.{SeatItem, asking_in, asking_seen, items_of}

@@ -1,11 +1,12 @@
 -- Steps that were taken, and then further ones.
 use Rattle.std.proofs.Common.{◌≡◌, ◌==◌, Bool, true, false, ℕ, ◌+◌, List, [], ◌∷◌, ◌++◌, length}
-use Rattle.std.proofs.Common.{take, refl, sym, ap, ◌∙◌, subst, append_assoc, arith, map}
+use Rattle.std.proofs.Common.{take, drop, refl, sym, ap, ◌∙◌, subst, append_assoc, arith, map}
 use Rattle.std.proofs.Common.{Option, None}
 use Rattle.std.specs.Prelude.{if◌then◌else◌}
-use Rattle.std.proofs.lemmas.List.{append-nil, length-append, take-append-le, map-append}
+use Rattle.std.proofs.lemmas.List.{append-nil, length-append, take-append-le, drop-append-le}
+use Rattle.std.proofs.lemmas.List.{map-append}
 use Rattle.std.proofs.lemmas.Grind.{flat_map-append}
-use Rattle.std.proofs.Math.Seq.{take-append-add}
+use Rattle.std.proofs.Math.Seq.{take-append-add, drop-append-add}
 use Rattle.outside.specs.Sink.{SinkTold, AppendsAll, AppendsPart}
 use Rattle.outside.proofs.Writing.{Appends-none, Appends-append, AppendsPart-none}
 use Rattle.outside.proofs.Writing.{AppendsPart-append}
@@ -14,7 +15,7 @@ use Rattle.tase_replay.specs.Play.{Step, entries_in, printed_in}
 use Rattle.conn_service.specs.TaseConn.declared.stage.ConnEnd.{ConnEnd}
 use Rattle.tase_replay.specs.PrintedLines.{ShownToPeer, sent_octet, end_shown, all_shown, shown_by}
 use Rattle.tase_replay.specs.PrintedLines.{step_shows}
-use Rattle.tase_replay.specs.Ends.{TakesAll, TakesPart}
+use Rattle.tase_replay.specs.Ends.{TakesAll, TakesPart, IsClosing}
 
 pub entries_in-append : (first next : List Step) → entries_in (first ++ next) ≡ entries_in first
     ++ entries_in next
@@ -106,7 +107,8 @@ TakesPart-append first next history middle now before between after failed one t
       count = length first + two.count;
       within = omega (arith, length-append first next, two.within);
       closing = two.closing;
-      closes = two.closes;
+      closes = subst (λ (steps : List Step). IsClosing failed two.closing steps)
+          (sym (drop-append-add first next two.count)) two.closes;
       entries = two.entries ∙ ap (λ (h : List Entry). h ++ two.closing)
           (ap (λ (h : List Entry). h ++ entries_in (take two.count next)) one.entries
           ∙ append_assoc history (entries_in first) (entries_in (take two.count next))
@@ -121,6 +123,15 @@ TakesPart-append first next history middle now before between after failed one t
           (printed_in (take two.count next)) failed one.shown two.shown));
     }
 
+-- what closes the association of a next step does so whatever comes behind that
+closing_on : (failed : Bool) (closing : List Entry) (next more : List Step)
+    → IsClosing failed closing next → IsClosing failed closing (next ++ more)
+closing_on failed [] next more c = tt
+closing_on false (entry ∷ []) [] more c = absurd c
+closing_on false (entry ∷ []) (step ∷ next) more c = c
+closing_on false (entry ∷ other ∷ closing) next more c = absurd c
+closing_on true (entry ∷ closing) next more c = absurd c
+
 -- a front part of steps is one of these with others behind them
 pub TakesPart-front : (steps more : List Step) (history now : List Entry) (before after : SinkTold)
     (failed : Bool)
@@ -133,7 +144,9 @@ TakesPart-front steps more history now before after failed part =
       count = part.count;
       within = omega (arith, length-append steps more, part.within);
       closing = part.closing;
-      closes = part.closes;
+      closes = subst (λ (these : List Step). IsClosing failed part.closing these)
+          (sym (drop-append-le part.count steps more part.within))
+          (closing_on failed part.closing (drop part.count steps) more part.closes);
       entries = part.entries
           ∙ ap (λ (these : List Step). (history ++ entries_in these) ++ part.closing) (sym front);
       shown = subst (λ (these : List Step). AppendsPart before after (printed_in these) failed)

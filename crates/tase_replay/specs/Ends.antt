@@ -1,6 +1,7 @@
 -- What a replay leaves, by how it ended.
 use Rattle.std.specs.Prelude.{◌≡◌, ℕ, ◌≤◌, Bool, true, false, List, [], ◌∷◌, ◌++◌, length, take}
 use Rattle.std.specs.Prelude.{Result, Ok, Err, Option, Some, None}
+use Rattle.std.proofs.Common.{drop}
 use Rattle.outside.specs.Sink.{SinkTold, AppendsAll, AppendsPart}
 use Rattle.tase_views.specs.declared.event.Entry.{Entry}
 use Rattle.tase_views.specs.declared.event.EventKind.TheVariants.{Close}
@@ -22,11 +23,11 @@ pub record TakesAll (steps : List Step) (history now : List Entry)
   -- the sink took what they print
   pub shown : AppendsAll before after (printed_in steps)
 
--- nothing, or where no write failed the close of an association
-abbrev pub IsClosing : Bool → List Entry → Type 0
-IsClosing failed [] = Unit {0}
-IsClosing false (entry ∷ []) = entry.event ≡ Close
-IsClosing failed entries = ⊥
+-- nothing, or where no write failed the close of an association of the seat whose step comes next
+abbrev pub IsClosing : Bool → List Entry → List Step → Type 0
+IsClosing failed [] next = Unit {0}
+IsClosing false (entry ∷ []) (step ∷ more) = (entry.event ≡ Close) × (entry.who ≡ step.who)
+IsClosing failed entries next = ⊥
 
 -- some of these steps were taken, from the first on, and the last write may have failed
 pub record TakesPart (steps : List Step) (history now : List Entry) (before after : SinkTold)
@@ -35,9 +36,9 @@ pub record TakesPart (steps : List Step) (history now : List Entry) (before afte
   pub count : ℕ
   pub within : count ≤ length steps
   -- the history has their entries behind those that it had, and where memory was wanting for a
-  -- connection maybe the close of its association
+  -- connection, at the next of these steps, maybe the close of its association
   pub closing : List Entry
-  pub closes : IsClosing failed closing
+  pub closes : IsClosing failed closing (drop count steps)
   pub entries : now ≡ (history ++ entries_in (take count steps)) ++ closing
   -- the sink took a front part of what they print
   pub shown : AppendsPart before after (printed_in (take count steps)) failed

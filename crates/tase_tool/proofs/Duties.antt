@@ -1,9 +1,8 @@
 -- That a replay, a listing and the reading of a PDU go by their plans, and what a replay has sent.
-use Rattle.std.proofs.Common.{◌≡◌, ℕ, true, false, List, [], ◌∷◌, Option, Some, None, is_some}
-use Rattle.std.proofs.Common.{refl, sym, ◌∙◌, ap, subst, true≢false}
+use Rattle.std.proofs.Common.{◌≡◌, ℕ, false, List, Option, Some}
+use Rattle.std.proofs.Common.{refl, sym, ap, subst}
 use Rattle.std.specs.Prelude.{Result, Ok, Err, IfOk, Vec, codes}
 use Rattle.std.specs.declared.alloc.Global.{Global}
-use Rattle.std.proofs.lemmas.List.{append-nil}
 use Rattle.outside.specs.Sink.{SinkTold}
 use Rattle.outside.specs.Names.Outside.{NameEntry, OutsideTold}
 use Rattle.commands.specs.declared.io.status.Status.{Status}
@@ -11,47 +10,19 @@ use Rattle.commands.specs.declared.io.input.InputEnd.{InputEnd}
 use Rattle.commands.specs.declared.io.input.InputEnd.TheVariants.{Refused, Outside, Memory}
 use Rattle.commands.specs.declared.io.input.TheConstants.{TEXT_LIMIT}
 use Rattle.commands.specs.Io.Statuses.{is_whole}
-use Rattle.commands.specs.Io.Saying.{Text, untold, missing, told, texts_of, names_in}
+use Rattle.commands.specs.Io.Saying.{Text, untold, missing, told, texts_of}
 use Rattle.commands.specs.Io.Inputs.{value_as, ReadsInput}
 use Rattle.commands.specs.Io.Runs.{Took}
-use Rattle.commands.specs.Io.Plans.{Plan, says, whole_text, octets_of, texts_behind, EndsPlan}
+use Rattle.commands.specs.Io.Plans.{Plan, whole_text, octets_of, texts_behind, EndsPlan}
 use Rattle.commands.specs.Io.Plans.{ReadsValue, OnValue}
-use Rattle.commands.proofs.OfIo.Plans.{IsFront, Fits, OnEnd, OnValue-read, ReadsValue-text}
-use Rattle.commands.proofs.OfIo.Plans.{texts_valued, plan_command}
+use Rattle.commands.proofs.OfIo.Plans.{OnEnd, OnValue-read, ReadsValue-text}
+use Rattle.commands.proofs.OfIo.Plans.{texts_valued}
 use Rattle.bilateral.specs.Rows.{CentreRows}
-use Rattle.tase_replay.specs.Play.{Played, shown_of, scenario_of}
 use Rattle.node_core.specs.NodeState.{NodeState}
 use Rattle.commands.specs.Words.Words.{ReplayOptions, Task, limit_of, replays}
 use Rattle.commands.specs.Files.Tables.{tables_in}
-use Rattle.tase_tool.specs.Saying.{kept_said, journal_names, setup_of, scenario_said, scenario_plan}
-use Rattle.tase_tool.specs.Saying.{duty_of, plan_of}
 use Rattle.tase_tool.specs.Sent.{node_of, SendsSoFar, SendsOn, SendsOver, SendsBy}
-use Rattle.tase_tool.proofs.Playing.{plays_alone}
 use Rattle.tase_tool.proofs.Sending.{SendsSoFar-still, output_of, output_kept}
-
--- the files that are said of a play are the journal, if one is named
-kept_names : (journal : Option (List ℕ)) (played : Played)
-    → names_in (kept_said journal played).files ≡ journal_names journal
-kept_names None played = ap names_in (plays_alone (shown_of played) played.end)
-kept_names (Some name) played = refl
-
-IsFront-all : (names part : List (List ℕ)) → part ≡ names → IsFront names part
-IsFront-all names part same = ([], sym (append-nil part ∙ same))
-
--- a scenario leads to no other file
-pub said_fits : (rows : CentreRows) (options : ReplayOptions) (octets : List ℕ)
-    → Fits (says (scenario_said rows options octets)) [] (journal_names options.journal)
-said_fits rows options octets =
-    IsFront-all (journal_names options.journal) (names_in (scenario_said rows options octets).files)
-    (kept_names options.journal (scenario_of (setup_of rows (limit_of options)) octets))
-
-pub scenario_fits : (options : ReplayOptions) (scenario : List ℕ) (rows : CentreRows)
-    → Fits (scenario_plan rows options scenario) (scenario ∷ []) (journal_names options.journal)
-scenario_fits options scenario rows = (
-  ([], refl),
-  IsFront-all (journal_names options.journal) (journal_names options.journal) refl,
-  said_fits rows options,
-)
 
 -- with nothing printed, nothing was sent of whatever text
 SendsOn-still : (node : NodeState) (status : Status) (before after : Option (List ℕ)) (t : Text)
@@ -133,12 +104,6 @@ module _ (b m a : OutsideTold) (status : Status) where
           λ rows. SendsOn-still (node_of rows (limit_of options)) status (output_of b.sinks)
           (output_of a.sinks) (texts_behind (texts_of b) tables scenario) (ap is_whole ran.0)
           (output_kept b m a ran.1 input.1.opens.sinks)
-
--- words that ask for a task are a command
-pub task_command : (task : Option Task) (texts : List ℕ → Text) → is_some task ≡ true
-    → (duty_of task texts).is_command ≡ true
-task_command None texts asks = absurd (true≢false (sym asks))
-task_command (Some task) texts asks = plan_command (plan_of task) texts
 
 -- with nothing printed, nothing was sent by whatever command
 pub SendsBy-still : (task : Option Task) (texts : List ℕ → Text) (status : Status)

@@ -1,7 +1,6 @@
 -- What a listing says, piece by piece.
 use Rattle.std.proofs.Common.{◌≡◌, ℕ, Bool, true, false, List, [], ◌++◌}
-use Rattle.std.proofs.Common.{Ok, Err, refl, sym, ap, subst, ◌∙◌, ◌≢◌}
-use Rattle.std.specs.Prelude.{Result}
+use Rattle.std.proofs.Common.{Ok, Err, sym, ap, subst, ◌∙◌, ◌≢◌}
 use Rattle.outside.specs.Sink.{SinkTold, AppendsAll, AppendsPart}
 use Rattle.outside.proofs.Writing.{Appends-append, AppendsPart-append, AppendsPart-front}
 use Rattle.commands.specs.declared.io.status.Status.{Status}
@@ -10,7 +9,7 @@ use Rattle.commands.specs.declared.io.status.Status.TheVariants.{Differs, Memory
 use Rattle.commands.specs.Io.Runs.{TellsSaid}
 use Rattle.stack_assoc.specs.Listing.Listings.{Listing, State, listing_of, yet_listed, with_text, ListsPiece}
 use Rattle.stack_assoc.proofs.OfListing.Listing.{with_text-twice}
-use Rattle.tase_tool.specs.Listing.{status_of, listing_said, stream_said, ListsOn}
+use Rattle.tase_tool.specs.Listing.{status_of, listing_said, ListsOn}
 
 -- a listing is no answer to words that are no command
 pub lists_command : (listing : Listing) (k l : SinkTold) (status : Status)
@@ -95,8 +94,3 @@ stopped_piece old next piece before text k l lists none part more =
     (AppendsPart-front k l lists.added (yet_listed next more).text true
     (subst (λ (os : List ℕ). AppendsPart k l os true)
     (lists.is ∙ ap (λ (os : List ℕ). os ++ lists.added) none) part))
-
--- nothing but standard output is written
-pub listings_alone : (capture : Result (List ℕ) ℕ) → (stream_said capture).files ≡ []
-listings_alone (Ok octets) = refl
-listings_alone (Err line) = refl

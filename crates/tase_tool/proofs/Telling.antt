@@ -1,10 +1,8 @@
 -- What is said of a PDU that was read, and of the first rule that octets break.
-use Rattle.std.proofs.Common.{◌≡◌, ℕ, List, [], Ok, Err, ap, refl}
-use Rattle.std.specs.Prelude.{length, Result}
+use Rattle.std.proofs.Common.{◌≡◌, ℕ, List, Ok, Err, ap, refl}
+use Rattle.std.specs.Prelude.{length}
 use Rattle.commands.specs.declared.io.status.Status.TheVariants.{Done, Input}
 use Rattle.commands.specs.Io.Saying.{prints}
-use Rattle.ber_values.specs.declared.fault.BerFault.{BerFault}
-use Rattle.ber_values.specs.Reading.{Taken}
 use Rattle.ber_values.specs.Readers.{IsReadBy, taken_whole}
 use Rattle.mms_services.specs.declared.fault.MmsFault.{MmsFault}
 use Rattle.mms_services.specs.declared.pdu.MmsPdu.{MmsPdu}
@@ -27,12 +25,3 @@ module _ (octets : List ℕ) where
       → pdu_said octets ≡ prints Input (pdu_fault_line f.place (why_name f.why))
   said_of_fault f reads =
       ap (read_said (length octets)) ((pdu_reads 0 octets).first _ ((reads.fault _).0 refl))
-
--- nothing but standard output is written
-pub pdus_alone : (octets : List ℕ) → (pdu_said octets).files ≡ []
-pdus_alone octets = read_alone (length octets) (pdu.reading 0 octets)
-  where
-    read_alone : (len : ℕ) (read : Result (Taken MmsPdu) BerFault)
-        → (read_said len read).files ≡ []
-    read_alone len (Ok taken) = refl
-    read_alone len (Err fault) = refl

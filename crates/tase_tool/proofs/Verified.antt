@@ -1,5 +1,5 @@
 -- That `verify` goes by its plan.
-use Rattle.std.proofs.Common.{◌≡◌, ℕ, Bool, List, [], ◌∷◌, Option, refl, sym, subst}
+use Rattle.std.proofs.Common.{◌≡◌, ℕ, List, Option, refl, sym, subst}
 use Rattle.std.specs.Prelude.{Result, Ok, Err, IfOk, MatchResult, Vec, codes}
 use Rattle.std.specs.declared.alloc.AllocError.{AllocError}
 use Rattle.std.specs.declared.alloc.Global.{Global}
@@ -10,67 +10,19 @@ use Rattle.commands.specs.declared.io.input.InputEnd.TheVariants.{Refused, Memor
 use Rattle.commands.specs.declared.io.input.Refusal.TheVariants.{BadLine}
 use Rattle.commands.specs.declared.io.input.TheConstants.{JOURNAL_LIMIT}
 use Rattle.commands.specs.Io.Inputs.{value_or_end, ReadsInput}
-use Rattle.commands.specs.Io.Saying.{texts_of}
-use Rattle.commands.specs.Io.Runs.{IsRun, EndsUnread}
-use Rattle.commands.specs.Io.Plans.{Plan, says, duty_by, IsSpelled, ReadsValue, EndsPlan}
-use Rattle.commands.proofs.OfIo.Plans.{Fits, Fits-alone, Fits-value, IsRun-value}
-use Rattle.capture_text.specs.Captures.{capture_in}
+use Rattle.commands.specs.Io.Runs.{EndsUnread}
+use Rattle.commands.specs.Io.Plans.{Plan, RunsPlan, IsSpelled, ReadsValue, EndsPlan}
+use Rattle.commands.proofs.OfIo.Plans.{IsRun-value}
 use Rattle.bilateral.specs.Rows.{CentreRows}
 use Rattle.sbo_device.specs.declared.key.Key.{Key}
 use Rattle.tase_views.specs.History.{Past}
 use Rattle.tase_verify.specs.declared.association.answered.AnsweredEvent.{AnsweredEvent}
 use Rattle.tase_verify.specs.declared.association.verdict.Verdict.{Verdict}
-use Rattle.tase_verify.specs.declared.association.verdict.Verdict.TheVariants as verdicts
 use Rattle.tase_verify.specs.JournalIn.{journal_in}
-use Rattle.tase_verify.specs.LinkText.{given_in}
-use Rattle.tase_verify.specs.Verifying.{journal_setup, answered_for, verdict_for, IsJournal}
+use Rattle.tase_verify.specs.Verifying.{journal_setup, answered_for, IsJournal}
 use Rattle.commands.specs.Words.Words.{Question}
-use Rattle.tase_tool.specs.Verifying.{verdict_said, key_meant, input_asked, sent_plan}
+use Rattle.tase_tool.specs.Verifying.{key_meant, input_asked}
 use Rattle.tase_tool.specs.Verifying.{given_plan, journal_plan, AreAnswers}
-
--- a verdict writes no file
-verdicts_alone : (verdict : Verdict) → (verdict_said verdict).files ≡ []
-verdicts_alone verdicts.Equal = refl
-verdicts_alone (verdicts.Differs place got want) = refl
-verdicts_alone (verdicts.Stray number) = refl
-
-module _ (question : Question) (rows : CentreRows) (key : Option Key) (past : Past) where
-  -- each input of the command names those behind it
-  pub verdict_fits : (octets : List ℕ) (ended : Bool) (sent : List ℕ)
-      → Fits (says (verdict_said (verdict_for rows past key octets ended sent))) [] []
-  verdict_fits octets ended sent =
-      Fits-alone (verdict_said (verdict_for rows past key octets ended sent)) [] []
-      (verdicts_alone (verdict_for rows past key octets ended sent))
-
-  pub sent_fits : (given : List ℕ × Bool)
-      → Fits (sent_plan question rows key past given) (question.sent ∷ []) []
-  sent_fits given = (
-    ([], refl),
-    ([], refl),
-    λ octets. Fits-value (codes "out")
-        (λ sent. says (verdict_said (verdict_for rows past key given.0 given.1 sent))) [] []
-        (verdict_fits given.0 given.1) (capture_in octets),
-  )
-
-  pub given_fits : Fits (given_plan question rows key past) (question.given ∷ question.sent ∷ []) []
-  given_fits = (
-    ([], refl),
-    ([], refl),
-    λ octets. Fits-value (codes "in") (sent_plan question rows key past) (question.sent ∷ []) []
-        sent_fits (given_in octets),
-  )
-
-pub journal_fits : (question : Question) (rows : CentreRows)
-    → Fits (journal_plan question rows)
-    (question.journal ∷ question.given ∷ question.sent ∷ []) []
-journal_fits question rows = (
-  ([], refl),
-  ([], refl),
-  λ octets. Fits-value (codes "journal") (given_plan question rows (key_meant rows question))
-      (question.given ∷ question.sent ∷ []) []
-      (given_fits question rows (key_meant rows question))
-      (journal_in (journal_setup rows) octets),
-)
 
 -- a run over these tables: the journal is read to this, and it goes on by the association
 pub IsRun-journal : (question : Question) (rows : CentreRows) (key : Option Key)
@@ -78,13 +30,12 @@ pub IsRun-journal : (question : Question) (rows : CentreRows) (key : Option Key)
     → (was : Result Past InputEnd)
     → ReadsValue (journal_in (journal_setup rows)) question.journal JOURNAL_LIMIT was b m
     → EndsPlan (codes "journal") (given_plan question rows key) was m a status
-    → IsRun (duty_by (journal_plan question rows) (texts_of b)) b a status
+    → RunsPlan (journal_plan question rows) b a status
 IsRun-journal question rows key b m a status same was value run =
     IsRun-value b m a
-    (input_asked (codes "journal") JOURNAL_LIMIT (question.given ∷ question.sent ∷ [])
-    question.journal)
+    (input_asked (codes "journal") JOURNAL_LIMIT question.journal)
     (journal_in (journal_setup rows)) (given_plan question rows (key_meant rows question))
-    (given_fits question rows (key_meant rows question)) was status value
+    was status value
     (subst (λ k. EndsPlan (codes "journal") (given_plan question rows k) was m a status) same run)
 
 module _ (rows : CentreRows) (key : Option Key) where
@@ -144,7 +95,7 @@ module _ (rows : CentreRows) (key : Option Key) where
       (read : Result (Vec AnsweredEvent Global) InputEnd) where
     pub answered_there : (events : Vec AnsweredEvent Global) → read ≡ Ok events
         → ((past : Past) → events.items ≡ answered_for (journal_setup rows) key past
-        → IsRun (duty_by (next past) (texts_of b)) b a status)
+        → RunsPlan (next past) b a status)
         → (was : Result Past InputEnd) → AreAnswers rows key was read
         → EndsPlan (codes "journal") next was b a status
     answered_there events is run (Ok past) are =

@@ -1,18 +1,27 @@
 -- What a run of the program's words leaves outside, by the command that they ask for.
-use Rattle.std.specs.Prelude.{◌≡◌, ◌⊎◌, ℕ, Option, Some}
+use Rattle.std.specs.Prelude.{◌≡◌, ◌⊎◌, ℕ, false, Option, Some, None, Result, Ok, Err}
 use Rattle.outside.specs.Names.Outside.{OutsideTold}
 use Rattle.commands.specs.declared.io.status.Status.{Status}
 use Rattle.commands.specs.declared.io.status.Status.TheVariants.{Memory}
-use Rattle.commands.specs.Io.Saying.{texts_of}
+use Rattle.commands.specs.Io.Saying.{duty_to_say}
 use Rattle.commands.specs.Io.Runs.{IsRun}
+use Rattle.commands.specs.Io.Plans.{RunsPlan}
 use Rattle.commands.specs.Words.Words.{ServeTask, ClientTask, Task, serves, plays_client}
+use Rattle.commands.specs.Words.Words.{serve_seen, client_seen, IsServed}
+use Rattle.tase_tool.specs.declared.running.Waiting.{Waiting}
+use Rattle.tase_tool.specs.declared.running.Waiting.TheVariants.{Serve, Client}
 use Rattle.tase_tool.specs.Client.Playing.{ClientCommand}
 use Rattle.tase_tool.specs.Server.Serving.{ServesCommand}
-use Rattle.tase_tool.specs.Saying.{duty_of}
+use Rattle.tase_tool.specs.Saying.{usage, plan_of}
 
 -- memory ran out before anything was done
 abbrev pub LacksMemory : OutsideTold → OutsideTold → Status → Type 0
 LacksMemory before after status = (status ≡ Memory) × (after ≡ before)
+
+-- a command goes by its plan, and words that ask for none are told so
+abbrev pub RunsOwed : Option Task → OutsideTold → OutsideTold → Status → Type 0
+RunsOwed None before after status = IsRun (duty_to_say false usage) before after status
+RunsOwed (Some task) before after status = RunsPlan (plan_of task) before after status
 
 -- a server is run; it alone starts jobs, whose refused starts are counted
 abbrev pub RunsServe : ServeTask → OutsideTold → OutsideTold → ℕ → ℕ → Status → Type 0
@@ -34,4 +43,23 @@ RunsTask (Some (serves task)) before after refused refused_after status =
 RunsTask (Some (plays_client task)) before after refused refused_after status =
     RunsClient task before after status × (refused_after ≡ refused)
 RunsTask task before after refused refused_after status =
-    IsRun (duty_of task (texts_of before)) before after status × (refused_after ≡ refused)
+    RunsOwed task before after status × (refused_after ≡ refused)
+
+-- what a command that waits asks for
+abbrev pub waits_for : Waiting → Task
+waits_for (Serve words) = serves (serve_seen words)
+waits_for (Client words) = plays_client (client_seen words)
+
+abbrev pub IsWaitLimited : Waiting → Type 0
+IsWaitLimited (Serve words) = IsServed (serve_seen words)
+IsWaitLimited (Client words) = Unit {0}
+
+-- what a run of words that waits for nothing leaves: a command that waits is handed back, with
+-- nothing done; every other, and words that ask for none, say what they owe; memory may run out
+-- before that is told
+abbrev pub RunsTexts : Option Task → OutsideTold → OutsideTold → Result Status Waiting → Type 0
+RunsTexts task before after (Err waiting) =
+    (task ≡ Some (waits_for waiting)) × (after ≡ before)
+RunsTexts (Some (serves task)) before after (Ok status) = LacksMemory before after status
+RunsTexts (Some (plays_client task)) before after (Ok status) = LacksMemory before after status
+RunsTexts task before after (Ok status) = RunsOwed task before after status

@@ -1,12 +1,11 @@
 -- What each command says, and which inputs it opens, from the octets of its inputs.
-use Rattle.std.specs.Prelude.{ℕ, false, List, [], ◌∷◌, ◌++◌, length}
+use Rattle.std.specs.Prelude.{ℕ, List, [], ◌∷◌, ◌++◌, length}
 use Rattle.std.specs.Prelude.{Option, Some, None, Result, Ok, Err, codes}
 use Rattle.commands.specs.declared.io.status.Status.TheVariants.{Done, Usage, Input, Full}
 use Rattle.commands.specs.declared.io.input.Refusal.TheVariants.{BadLine}
 use Rattle.commands.specs.declared.io.input.TheConstants.{TEXT_LIMIT}
-use Rattle.commands.specs.Io.Saying.{Said, prints, refusal_text, full_text, Text, with_file}
-use Rattle.commands.specs.Io.Saying.{Duty, duty_to_say}
-use Rattle.commands.specs.Io.Plans.{Asked, Plan, says, reads, reads_value, duty_by, refused_said}
+use Rattle.commands.specs.Io.Saying.{Said, prints, refusal_text, full_text, with_file}
+use Rattle.commands.specs.Io.Plans.{Asked, Plan, says, reads, reads_value, refused_said}
 use Rattle.capture_text.specs.Captures.{capture_in}
 use Rattle.bilateral.specs.Rows.{CentreRows}
 use Rattle.tase_views.specs.Setup.{Setup}
@@ -54,52 +53,24 @@ abbrev pub scenario_said : CentreRows → ReplayOptions → List ℕ → Said
 scenario_said rows options text =
     kept_said options.journal (scenario_of (setup_of rows (limit_of options)) text)
 
--- the file of a journal, if one is named
-abbrev pub journal_names : Option (List ℕ) → List (List ℕ)
-journal_names None = []
-journal_names (Some name) = name ∷ []
+-- an input of a command that may have as many octets as a text
+abbrev pub text_asked : List ℕ → List ℕ → Asked
+text_asked called name = record { file = name; called = called; limit = TEXT_LIMIT }
 
--- the scenario under a name, over these tables
-abbrev pub scenario_asked : ReplayOptions → List ℕ → Asked
-scenario_asked options name = record {
-  file = name;
-  called = codes "scenario";
-  limit = TEXT_LIMIT;
-  others = [];
-  files = journal_names options.journal;
-}
-
--- a scenario is read, and played over these tables
+-- the scenario under a name is read, and played over these tables
 abbrev pub scenario_plan : CentreRows → ReplayOptions → List ℕ → Plan
-scenario_plan rows options name =
-    reads (scenario_asked options name) (λ octets. says (scenario_said rows options octets))
-
--- the tables under a name, and then a scenario; where nothing is told of the tables, nothing is
--- said of it
-abbrev pub tables_asked : ReplayOptions → List ℕ → List ℕ → Asked
-tables_asked options scenario name = record {
-  file = name;
-  called = codes "tables";
-  limit = TEXT_LIMIT;
-  others = scenario ∷ [];
-  files = journal_names options.journal;
-}
+scenario_plan rows options name = reads (text_asked (codes "scenario") name)
+    (λ octets. says (scenario_said rows options octets))
 
 -- tables are read, and a scenario over them
 abbrev pub replay_plan : List ℕ → List ℕ → ReplayOptions → Plan
 replay_plan tables scenario options =
-    reads_value (tables_asked options scenario tables) tables_in
+    reads_value (text_asked (codes "tables") tables) tables_in
     (λ rows. scenario_plan rows options scenario)
 
 -- the capture under a name
 abbrev pub capture_asked : List ℕ → Asked
-capture_asked name = record {
-  file = name;
-  called = codes "in";
-  limit = TEXT_LIMIT;
-  others = [];
-  files = [];
-}
+capture_asked name = text_asked (codes "in") name
 
 -- what is counted of a play, in place of all that it shows; a refusal is told as a replay tells it,
 -- without what the lines before show
@@ -143,8 +114,3 @@ plan_of (verifies question) = verify_plan question
 plan_of (loads rounds) = says (load_said rounds)
 plan_of (serves task) = no_plan
 plan_of (plays_client task) = no_plan
-
--- what a run of these words owes, by what is told under each name
-abbrev pub duty_of : Option Task → (List ℕ → Text) → Duty
-duty_of None texts = duty_to_say false usage
-duty_of (Some task) texts = duty_by (plan_of task) texts

@@ -51,43 +51,33 @@ key_meant rows question =
     option_map (λ peer. record { peer = peer; ordinal = question.ordinal })
     (place_of_peer rows question.peer)
 
--- an input of the command, and those that are read behind it
-abbrev pub input_asked : List ℕ → ℕ → List (List ℕ) → List ℕ → Asked
-input_asked called limit others name = record {
-  file = name;
-  called = called;
-  limit = limit;
-  others = others;
-  files = [];
-}
+-- an input of the command
+abbrev pub input_asked : List ℕ → ℕ → List ℕ → Asked
+input_asked called limit name = record { file = name; called = called; limit = limit }
 
 -- what the association was sent is read, and the verdict on it is told
 abbrev pub sent_plan : Question → CentreRows → Option Key → Past → List ℕ × Bool → Plan
 sent_plan question rows key past given =
-    reads_value (input_asked (codes "out") TEXT_LIMIT [] question.sent) capture_in
+    reads_value (input_asked (codes "out") TEXT_LIMIT question.sent) capture_in
     (λ sent. says (verdict_said (verdict_for rows past key given.0 given.1 sent)))
 
 -- what its link gave is read, and then what it was sent
 abbrev pub given_plan : Question → CentreRows → Option Key → Past → Plan
 given_plan question rows key past =
-    reads_value (input_asked (codes "in") TEXT_LIMIT (question.sent ∷ []) question.given) given_in
+    reads_value (input_asked (codes "in") TEXT_LIMIT question.given) given_in
     (sent_plan question rows key past)
 
 -- the journal over these tables is read, and then the captures
 abbrev pub journal_plan : Question → CentreRows → Plan
 journal_plan question rows =
-    reads_value
-    (input_asked (codes "journal") JOURNAL_LIMIT (question.given ∷ question.sent ∷ [])
-    question.journal)
+    reads_value (input_asked (codes "journal") JOURNAL_LIMIT question.journal)
     (journal_in (journal_setup rows)) (given_plan question rows (key_meant rows question))
 
 -- the tables are read, and then the journal and the captures
 abbrev pub verify_plan : Question → Plan
 verify_plan question =
-    reads_value
-    (input_asked (codes "tables") TEXT_LIMIT
-    (question.journal ∷ question.given ∷ question.sent ∷ []) question.tables)
-    tables_in (journal_plan question)
+    reads_value (input_asked (codes "tables") TEXT_LIMIT question.tables) tables_in
+    (journal_plan question)
 
 -- what a link gave, as it is read: its octets, and whether it has ended
 abbrev pub link_given : LinkText → List ℕ × Bool

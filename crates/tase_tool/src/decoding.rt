@@ -1,9 +1,9 @@
 //! The command `decode --pdu`: which PDU a capture holds.
 ghost use Rattle.std.specs.Prelude.{◌≡◌, IfOk, string_bytes, true, codes};
 ghost use Rattle.commands.specs.Io.Inputs.{value_as};
-ghost use Rattle.commands.specs.Io.Saying.{texts_of, prints, duty_to_say};
+ghost use Rattle.commands.specs.Io.Saying.{prints, duty_to_say};
 ghost use Rattle.commands.specs.Io.Runs.{IsRun};
-ghost use Rattle.commands.specs.Io.Plans.{says, duty_by, EndsPlan, octets_of};
+ghost use Rattle.commands.specs.Io.Plans.{says, RunsPlan, EndsPlan, octets_of};
 ghost use Rattle.tase_tool.specs.Decoding.{pdu_said};
 ghost use Rattle.tase_tool.specs.Decoding as own;
 ghost use Rattle.tase_tool.specs.Saying.{decode_plan};
@@ -19,10 +19,10 @@ use std::alloc::{AllocError, Global};
 
 /// Reads a capture, and prints which PDU its octets are, or the first rule that they break.
 pub(crate) fn run_decode<O: Outside>(alloc: Global, outside: &mut O, capture: &str) -> Status
-    ensures { let told = O.told outside.old in
-        IsRun (duty_by (decode_plan capture.now) (texts_of told)) told (O.told outside.new) result }
+    ensures { RunsPlan (decode_plan capture.now)
+        (O.told outside.old) (O.told outside.new) result }
 {
-    let read = read_octets(alloc, outside, capture);
+    let read = read_octets(alloc, outside, capture, "in");
     decode_octets(alloc, outside, read)
 }
 

@@ -1,4 +1,5 @@
-//! The commands of the program: `run` runs the command of its words over an outside.
+//! The commands of the program: `run` runs the command of its words over an outside, `run_texts`
+//! those of them that wait for nothing.
 #![tactic(auto)]
 
 mod captures;
@@ -10,5 +11,5 @@ mod running;
 pub mod server;
 mod verifying;
 
-pub use running::run;
+pub use running::{Waiting, run, run_texts};
 pub use server_main::serving;

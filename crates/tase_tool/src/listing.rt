@@ -1,8 +1,8 @@
 //! The command `decode`: the messages of a captured stream.
 ghost use Rattle.std.specs.Prelude.{◌≡◌, ◌≤◌, ◌⊎◌, [], length, true, codes, IsErr};
-ghost use Rattle.commands.specs.Io.Saying.{texts_of, duty_to_say};
+ghost use Rattle.commands.specs.Io.Saying.{duty_to_say};
 ghost use Rattle.commands.specs.Io.Runs.{IsRun, TellsSaid};
-ghost use Rattle.commands.specs.Io.Plans.{says, duty_by, EndsPlan, octets_of};
+ghost use Rattle.commands.specs.Io.Plans.{says, RunsPlan, EndsPlan, octets_of};
 ghost use Rattle.capture_text.specs.Captures.{capture_in};
 ghost use Rattle.tpkt_cotp.specs.declared.limits.TheConstants.{PIECE_LIMIT};
 ghost use Rattle.stack_assoc.specs.Listing.Listings.{listing_of, yet_listed};
@@ -11,7 +11,10 @@ ghost use Rattle.tase_tool.specs.Listing as own;
 ghost use Rattle.tase_tool.specs.Saying.{list_plan};
 
 use capture_text::{Pieces, read_pieces};
-use commands::io::{InputEnd, OUTPUT, Refusal, Status, TEXT_LIMIT, end_unread, read_input, refuse};
+use commands::io::{
+    InputEnd, OUTPUT, Refusal, RefusedLine, Status, TEXT_LIMIT, end_unread, note_line, read_input,
+    refuse,
+};
 use outside::names::Outside;
 use outside::{BufferedSink, Sink, SinkFailed, write_all};
 use stack_assoc::listing::Lister;
@@ -20,8 +23,8 @@ use tpkt_cotp::PIECE_LIMIT;
 
 /// Reads a capture, and lists the messages of the stream that its octets are.
 pub(crate) fn run_listing<O: Outside>(alloc: Global, outside: &mut O, capture: &str) -> Status
-    ensures { let told = O.told outside.old in
-        IsRun (duty_by (list_plan capture.now) (texts_of told)) told (O.told outside.new) result }
+    ensures { RunsPlan (list_plan capture.now)
+        (O.told outside.old) (O.told outside.new) result }
 {
     let read = read_input(alloc, outside, capture, TEXT_LIMIT);
     list_read(alloc, outside, read)
@@ -47,8 +50,21 @@ fn list_capture<O: Outside>(alloc: Global, outside: &mut O, text: &[u8]) -> Stat
 {
     match read_pieces(text) {
         Ok(pieces) => list_on_output(alloc, outside, pieces),
-        Err(line) => refuse(outside, "in", Refusal::BadLine(line)),
+        Err(line) => {
+            note_bad_line(alloc, outside, text, line);
+            refuse(outside, "in", Refusal::BadLine(line))
+        }
     }
+}
+
+// Lets an operator know of a line of a capture that can't be taken.
+fn note_bad_line<O: Outside>(alloc: Global, outside: &O, text: &[u8], number: u64) {
+    let line = RefusedLine {
+        input: "in",
+        text,
+        number,
+    };
+    note_line(alloc, outside, line);
 }
 
 // Opens standard output, lists a stream there, and closes it.

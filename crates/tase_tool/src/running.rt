@@ -1,14 +1,14 @@
 //! The commands.
-ghost use Rattle.std.specs.Prelude.{◌≡◌, ◌≤◌, ◌^◌, [], map, string_bytes, Some, IfOk, true, codes};
-ghost use Rattle.std.specs.Prelude.{false, IfSome, option_map, bytes_eq};
+ghost use Rattle.std.specs.Prelude.{◌≡◌, ◌≤◌, ◌^◌, [], map, string_bytes, Some, IfOk, IfErr, true};
+ghost use Rattle.std.specs.Prelude.{codes, false, IfSome, option_map, bytes_eq};
 ghost use Rattle.commands.specs.Io.Saying.{texts_of, duty_to_say, prints};
 ghost use Rattle.commands.specs.Io.Runs.{IsRun, TellsSaid, Took, taken_of, output_name};
-ghost use Rattle.commands.specs.Io.Plans.{says, duty_by, EndsPlan, octets_of};
+ghost use Rattle.commands.specs.Io.Plans.{says, RunsPlan, EndsPlan, octets_of};
 ghost use Rattle.commands.specs.Words.Words.{task_in, task_of, replays, limit_of, options_seen};
 ghost use Rattle.commands.specs.Words.Words.{AreOptions, IsLimited};
 ghost use Rattle.tase_tool.specs.Saying.{scenario_said, scenario_plan, replay_plan};
 ghost use Rattle.tase_tool.specs.Saying.{played_said, kept_said};
-ghost use Rattle.tase_tool.specs.Running.{RunsTask};
+ghost use Rattle.tase_tool.specs.Running.{RunsTask, RunsTexts, IsWaitLimited, waits_for};
 ghost use Rattle.tase_tool.specs.Playing.{EndsPlay};
 ghost use Rattle.tase_tool.specs.Sent.{node_of, played_on, SendsSoFar, SendsOver, SendsBy};
 ghost use Rattle.tase_tool.specs.Kept.{HasPlayed};
@@ -23,10 +23,10 @@ use crate::verifying::run_verify;
 use bilateral::Centre;
 use commands::files::{keep_journal, read_tables};
 use commands::io::{
-    InputEnd, OUTPUT, Refusal, Status, TEXT_LIMIT, end_unread, print, read_input, tell_full,
-    tell_refusal,
+    InputEnd, OUTPUT, Refusal, RefusedLine, Status, TEXT_LIMIT, end_unread, note_line, print,
+    read_input, tell_full, tell_refusal,
 };
-use commands::words::{Command, Options, read_command};
+use commands::words::{ClientWords, Command, Options, ServeWords, read_command};
 use job_threads::ThreadSpawner;
 use node_core::Node;
 use outside::links::Listener;
@@ -88,74 +88,113 @@ where
         (taken_of ((O.told outside.new).sinks output_name)) }
     ensures left { spawner.new.told.pending ≡ [] }
 {
+    match run_texts(alloc, words, outside) {
+        Ok(status) => status,
+        Err(waiting) => run_waiting(rt, alloc, outside, spawner, waiting),
+    }
+}
+
+/// A command that waits for what comes from outside.
+#[derive(Drop)]
+pub enum Waiting<'a> {
+    Serve(ServeWords<'a>),
+    Client(ClientWords<'a>),
+}
+
+// Runs a command that waits.
+fn run_waiting<R: Threads + Wait + Copy + Send + 'static, O: Outside>(
+    rt: &R,
+    alloc: Global,
+    outside: &mut O,
+    spawner: &mut ThreadSpawner<NodeJob<<O::Listener as Listener>::Link, O::In, O::Clock>>,
+    waiting: Waiting<'_>,
+) -> Status
+where
+    <O::Listener as Listener>::Link: Send + 'static,
+    O::In: Send + 'static,
+    O::Clock: Send + 'static,
+    requires limited { IsWaitLimited waiting }
+    requires none { spawner.old.told.pending ≡ [] }
+    ensures runs { RunsTask (Some (waits_for waiting.entry)) (O.told outside.old)
+        (O.told outside.new) spawner.old.told.faults spawner.new.told.faults result }
+    ensures left { spawner.new.told.pending ≡ [] }
+{
+    match waiting {
+        Waiting::Serve(words) => run_serve(rt, alloc, words, outside, spawner),
+        Waiting::Client(words) => run_client_command(rt, alloc, words, outside),
+    }
+}
+
+/// Runs the command of these words, as `run` does, where that waits for nothing: any but `serve`
+/// and `client`, which are handed back, with nothing done. It takes no runtime, so it can't wait:
+/// it is proved to end.
+pub fn run_texts<'a, O: Outside>(
+    alloc: Global,
+    words: &'a [String],
+    outside: &mut O,
+) -> Result<Status, Waiting<'a>>
+    ensures runs { RunsTexts (task_in (map string_bytes words.now)) (O.told outside.old)
+        (O.told outside.new) result }
+    ensures sent { let told = O.told outside.old in IfOk result (λ status.
+        SendsBy (task_in (map string_bytes words.now)) (texts_of told) status
+        (taken_of (told.sinks output_name))
+        (taken_of ((O.told outside.new).sinks output_name))) }
+    ensures limited { IfErr result IsWaitLimited }
+{
     match read_command(alloc, words) {
-        Ok(command) => run_command(rt, alloc, outside, spawner, command),
-        Err(AllocError) => Status::Memory,
+        Ok(command) => run_command(alloc, outside, command),
+        Err(AllocError) => Ok(Status::Memory),
     }
 }
 
 // Runs the command that words ask for; where they ask for none, it says so.
-fn run_command<R: Threads + Wait + Copy + Send + 'static, O: Outside>(
-    rt: &R,
+fn run_command<'a, O: Outside>(
     alloc: Global,
     outside: &mut O,
-    spawner: &mut ThreadSpawner<NodeJob<<O::Listener as Listener>::Link, O::In, O::Clock>>,
-    command: Option<Command<'_>>,
-) -> Status
-where
-    <O::Listener as Listener>::Link: Send + 'static,
-    O::In: Send + 'static,
-    O::Clock: Send + 'static,
-    requires limited { IfSome command IsLimited }
-    requires none { spawner.old.told.pending ≡ [] }
-    ensures runs { RunsTask (option_map task_of command.entry) (O.told outside.old)
-        (O.told outside.new) spawner.old.told.faults spawner.new.told.faults result }
-    ensures sent { let told = O.told outside.old in
-        SendsBy (option_map task_of command.entry) (texts_of told) result
+    command: Option<Command<'a>>,
+) -> Result<Status, Waiting<'a>>
+    requires { IfSome command IsLimited }
+    ensures runs { RunsTexts (option_map task_of command.entry) (O.told outside.old)
+        (O.told outside.new) result }
+    ensures sent { let told = O.told outside.old in IfOk result (λ status.
+        SendsBy (option_map task_of command.entry) (texts_of told) status
         (taken_of (told.sinks output_name))
-        (taken_of ((O.told outside.new).sinks output_name)) }
-    ensures left { spawner.new.told.pending ≡ [] }
+        (taken_of ((O.told outside.new).sinks output_name))) }
+    ensures limited { IfErr result IsWaitLimited }
 {
     match command {
-        Some(command) => run_task(rt, alloc, outside, spawner, command),
-        None => print(outside, Status::Usage, b"usage\n"),
+        Some(command) => run_task(alloc, outside, command),
+        None => Ok(print(outside, Status::Usage, b"usage\n")),
     }
 }
 
 // Runs a command.
-fn run_task<R: Threads + Wait + Copy + Send + 'static, O: Outside>(
-    rt: &R,
+fn run_task<'a, O: Outside>(
     alloc: Global,
     outside: &mut O,
-    spawner: &mut ThreadSpawner<NodeJob<<O::Listener as Listener>::Link, O::In, O::Clock>>,
-    command: Command<'_>,
-) -> Status
-where
-    <O::Listener as Listener>::Link: Send + 'static,
-    O::In: Send + 'static,
-    O::Clock: Send + 'static,
-    requires limited { IsLimited command }
-    requires none { spawner.old.told.pending ≡ [] }
-    ensures runs { RunsTask (Some (task_of command.entry)) (O.told outside.old)
-        (O.told outside.new) spawner.old.told.faults spawner.new.told.faults result }
-    ensures sent { let told = O.told outside.old in
-        SendsBy (Some (task_of command.entry)) (texts_of told) result
+    command: Command<'a>,
+) -> Result<Status, Waiting<'a>>
+    requires { IsLimited command }
+    ensures runs { RunsTexts (Some (task_of command.entry)) (O.told outside.old)
+        (O.told outside.new) result }
+    ensures sent { let told = O.told outside.old in IfOk result (λ status.
+        SendsBy (Some (task_of command.entry)) (texts_of told) status
         (taken_of (told.sinks output_name))
-        (taken_of ((O.told outside.new).sinks output_name)) }
-    ensures left { spawner.new.told.pending ≡ [] }
+        (taken_of ((O.told outside.new).sinks output_name))) }
+    ensures limited { IfErr result IsWaitLimited }
 {
     match command {
         Command::Replay {
             tables,
             scenario,
             options,
-        } => run_replay(alloc, outside, tables, scenario, options),
-        Command::Decode { capture } => run_listing(alloc, outside, capture),
-        Command::DecodePdu { capture } => run_decode(alloc, outside, capture),
-        Command::Verify { question } => run_verify(alloc, outside, question),
-        Command::Load { rounds } => run_load(alloc, outside, rounds),
-        Command::Serve { words } => run_serve(rt, alloc, words, outside, spawner),
-        Command::Client { words } => run_client_command(rt, alloc, words, outside),
+        } => Ok(run_replay(alloc, outside, tables, scenario, options)),
+        Command::Decode { capture } => Ok(run_listing(alloc, outside, capture)),
+        Command::DecodePdu { capture } => Ok(run_decode(alloc, outside, capture)),
+        Command::Verify { question } => Ok(run_verify(alloc, outside, question)),
+        Command::Load { rounds } => Ok(run_load(alloc, outside, rounds)),
+        Command::Serve { words } => Err(Waiting::Serve(words)),
+        Command::Client { words } => Err(Waiting::Client(words)),
     }
 }
 
@@ -168,9 +207,8 @@ fn run_replay<O: Outside>(
     options: Options<'_>,
 ) -> Status
     requires { AreOptions (options_seen options) }
-    ensures runs { let told = O.told outside.old in
-        IsRun (duty_by (replay_plan tables.now scenario.now (options_seen options.entry))
-        (texts_of told)) told (O.told outside.new) result }
+    ensures runs { RunsPlan (replay_plan tables.now scenario.now (options_seen options.entry))
+        (O.told outside.old) (O.told outside.new) result }
     ensures sent { let told = O.told outside.old in
         SendsBy (Some (replays tables.now scenario.now (options_seen options.entry)))
         (texts_of told) result (taken_of (told.sinks output_name))
@@ -212,9 +250,8 @@ fn run_scenario<O: Outside>(
     options: Options<'_>,
 ) -> Status
     requires { AreOptions (options_seen options) }
-    ensures runs { let told = O.told outside.old in
-        IsRun (duty_by (scenario_plan centre (options_seen options.entry) scenario.now)
-        (texts_of told)) told (O.told outside.new) result }
+    ensures runs { RunsPlan (scenario_plan centre (options_seen options.entry) scenario.now)
+        (O.told outside.old) (O.told outside.new) result }
     ensures sent { let told = O.told outside.old in
         SendsOver (options_seen options.entry) result
         (taken_of (told.sinks output_name)) (taken_of ((O.told outside.new).sinks output_name))
@@ -320,14 +357,15 @@ fn play_on_output<O: Outside>(
     let Some(sink) = outside.open_out(OUTPUT) else {
         return Status::Outside;
     };
-    let (sink, status) = play_gathered(alloc, node, scenario, sink);
+    let (sink, status) = play_gathered(alloc, outside, node, scenario, sink);
     outside.close_out(sink);
     status
 }
 
 // Plays a scenario on a node; what it shows is gathered, and goes out in large pieces.
-fn play_gathered<K: Sink + Drop>(
+fn play_gathered<O: Outside, K: Sink + Drop>(
     alloc: Global,
+    outside: &O,
     node: &mut Node,
     scenario: &[u8],
     sink: K,
@@ -343,7 +381,7 @@ fn play_gathered<K: Sink + Drop>(
         Ok(gathering) => gathering,
         Err(sink) => return (sink, Status::Memory),
     };
-    match play_on(alloc, node, scenario, &mut gathering) {
+    match play_on(alloc, outside, node, scenario, &mut gathering) {
         Status::Outside => (gathering.into_sink(), Status::Outside),
         status => match gathering.finish() {
             (sink, Ok(())) => (sink, status),
@@ -353,8 +391,14 @@ fn play_gathered<K: Sink + Drop>(
 }
 
 // Plays a scenario on a node, and prints the refusal of a bad line, or of an event for which the
-// history has no room, after what the lines before it show.
-fn play_on<K: Sink>(alloc: Global, node: &mut Node, scenario: &[u8], sink: &mut K) -> Status
+// history has no room, after what the lines before it show. An operator is told of a bad line.
+fn play_on<O: Outside, K: Sink>(
+    alloc: Global,
+    outside: &O,
+    node: &mut Node,
+    scenario: &[u8],
+    sink: &mut K,
+) -> Status
     ensures tells { TellsSaid (played_said (played_on node.old scenario.now))
         (K.told sink.old) (K.told sink.new) result }
     ensures sent { SendsSoFar node.old scenario.now result
@@ -362,7 +406,20 @@ fn play_on<K: Sink>(alloc: Global, node: &mut Node, scenario: &[u8], sink: &mut 
     ensures kept { OnWhole result (HasPlayed node.old scenario.now node.new.history) }
 {
     let end = replay(alloc, node, scenario, sink);
+    note_end(alloc, outside, scenario, end);
     tell_end(sink, end)
+}
+
+// Lets an operator know of the bad line at which a play of this scenario ended, where it did.
+fn note_end<O: Outside>(alloc: Global, outside: &O, text: &[u8], end: ReplayEnd) {
+    if let ReplayEnd::BadLine { line: number } = end {
+        let line = RefusedLine {
+            input: "scenario",
+            text,
+            number,
+        };
+        note_line(alloc, outside, line);
+    }
 }
 
 // Prints how a play ended, behind what its lines show: the refusal of a bad line, or of an event

@@ -3,5 +3,6 @@
 
 mod opening;
 mod serving;
+mod telling;
 
 pub use serving::run_serve;

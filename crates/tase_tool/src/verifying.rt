@@ -6,9 +6,9 @@ ghost use Rattle.commands.specs.declared.io.input.InputEnd.{InputEnd as AnyEnd};
 ghost use Rattle.commands.specs.declared.io.input.TheConstants.{TEXT_LIMIT, JOURNAL_LIMIT};
 ghost use Rattle.commands.specs.declared.io.status.Status.TheVariants.{Differs};
 ghost use Rattle.commands.specs.Io.Inputs.{value_as};
-ghost use Rattle.commands.specs.Io.Saying.{texts_of, prints, duty_to_say};
+ghost use Rattle.commands.specs.Io.Saying.{prints, duty_to_say};
 ghost use Rattle.commands.specs.Io.Runs.{IsRun};
-ghost use Rattle.commands.specs.Io.Plans.{says, duty_by, EndsPlan, IsSpelled, ReadsValue, octets_of};
+ghost use Rattle.commands.specs.Io.Plans.{says, RunsPlan, EndsPlan, IsSpelled, ReadsValue, octets_of};
 ghost use Rattle.tase_verify.specs.declared.association.verdict.Verdict.{Verdict as AnyVerdict};
 ghost use Rattle.tase_views.specs.History.{Past};
 ghost use Rattle.tase_verify.specs.JournalIn.{journal_in};
@@ -23,7 +23,8 @@ use crate::captures::read_octets;
 use bilateral::Centre;
 use commands::files::read_tables;
 use commands::io::{
-    InputEnd, JOURNAL_LIMIT, Status, TEXT_LIMIT, end_unread, print, read_input, value_or_end,
+    InputEnd, JOURNAL_LIMIT, Status, TEXT_LIMIT, end_unread, note_unread, print, read_input,
+    value_or_end,
 };
 use commands::words::Question;
 use outside::names::Outside;
@@ -51,9 +52,8 @@ pub(crate) fn run_verify<O: Outside>(
     outside: &mut O,
     question: Question<'_>,
 ) -> Status
-    ensures { let told = O.told outside.old in
-        IsRun (duty_by (verify_plan (question_seen question.entry)) (texts_of told))
-        told (O.told outside.new) result }
+    ensures { RunsPlan (verify_plan (question_seen question.entry))
+        (O.told outside.old) (O.told outside.new) result }
 {
     let read = read_tables(alloc, outside, question.tables);
     verify_over(alloc, outside, question, read)
@@ -88,9 +88,8 @@ fn share_centre<O: Outside>(
     question: Question<'_>,
     centre: Centre,
 ) -> Status
-    ensures { let told = O.told outside.old in
-        IsRun (duty_by (journal_plan (question_seen question.entry) centre) (texts_of told))
-        told (O.told outside.new) result }
+    ensures { RunsPlan (journal_plan (question_seen question.entry) centre)
+        (O.told outside.old) (O.told outside.new) result }
 {
     match shared(alloc, centre) {
         Ok(centre) => verify_centre(alloc, outside, question, &centre),
@@ -116,9 +115,8 @@ fn verify_centre<O: Outside>(
     question: Question<'_>,
     centre: &Arc<Centre>,
 ) -> Status
-    ensures { let told = O.told outside.old in
-        IsRun (duty_by (journal_plan (question_seen question.entry) (arc_value centre.now))
-        (texts_of told)) told (O.told outside.new) result }
+    ensures { RunsPlan (journal_plan (question_seen question.entry) (arc_value centre.now))
+        (O.told outside.old) (O.told outside.new) result }
 {
     let tables: &Centre = centre;
     let key = key_meant(tables, question);
@@ -126,9 +124,11 @@ fn verify_centre<O: Outside>(
     verify_answered(alloc, outside, question, tables, key, read)
 }
 
-// The events of the association that is meant, in the text of a journal, or why there are none.
-fn answered_from(
+// The events of the association that is meant, in the text of a journal, or why there are none. An
+// operator is told of its first bad line.
+fn answered_from<O: Outside>(
     alloc: Global,
+    outside: &O,
     text: &[u8],
     centre: &Arc<Centre>,
     key: Option<Key>,
@@ -137,7 +137,9 @@ fn answered_from(
         × (IsSpelled was (journal_in (journal_setup rows) text.now)
         × AreAnswers rows key was result) }
 {
-    value_or_end(read_journal(alloc, centre, text, key))
+    let read = value_or_end(read_journal(alloc, centre, text, key));
+    note_unread(alloc, outside, "journal", text, &read);
+    read
 }
 
 // Reads the events of the association that is meant from the journal under a name.
@@ -153,7 +155,7 @@ fn read_answered<O: Outside>(
         (O.told outside.old) (O.told outside.new) × AreAnswers rows key was result) }
 {
     match read_input(alloc, outside, name, JOURNAL_LIMIT) {
-        Ok(text) => answered_from(alloc, &text, centre, key),
+        Ok(text) => answered_from(alloc, outside, &text, centre, key),
         Err(end) => Err(end),
     }
 }
@@ -192,19 +194,22 @@ fn verify_meant<O: Outside>(
     question: Question<'_>,
     meant: Meant<'_>,
 ) -> Status
-    ensures { let told = O.told outside.old in (past : Past) → IsMeant meant.entry past
-        → IsRun (duty_by (given_plan (question_seen question.entry) meant.entry.centre.now
-        meant.entry.key past) (texts_of told)) told (O.told outside.new) result }
+    ensures { (past : Past) → IsMeant meant.entry past
+        → RunsPlan (given_plan (question_seen question.entry) meant.entry.centre.now
+        meant.entry.key past)
+        (O.told outside.old) (O.told outside.new) result }
 {
     let read = read_link(alloc, outside, question.given);
     verify_given(alloc, outside, question, meant, read)
 }
 
-// What a link gave, of a text, or why there is nothing.
-fn link_from(alloc: Global, text: &[u8]) -> Result<LinkText, InputEnd>
+// What a link gave, of a text, or why there is nothing. An operator is told of its first bad line.
+fn link_from<O: Outside>(alloc: Global, outside: &O, text: &[u8]) -> Result<LinkText, InputEnd>
     ensures { IsSpelled (value_as link_given result) (given_in text.now) }
 {
-    value_or_end(read_link_text(alloc, text))
+    let read = value_or_end(read_link_text(alloc, text));
+    note_unread(alloc, outside, "in", text, &read);
+    read
 }
 
 // Reads what a link gave from the file of this name.
@@ -213,7 +218,7 @@ fn read_link<O: Outside>(alloc: Global, outside: &mut O, name: &str) -> Result<L
         (O.told outside.old) (O.told outside.new) }
 {
     match read_input(alloc, outside, name, TEXT_LIMIT) {
-        Ok(text) => link_from(alloc, &text),
+        Ok(text) => link_from(alloc, outside, &text),
         Err(end) => Err(end),
     }
 }
@@ -244,12 +249,12 @@ fn verify_link<O: Outside>(
     meant: Meant<'_>,
     given: &LinkText,
 ) -> Status
-    ensures { let told = O.told outside.old in (past : Past) → IsMeant meant.entry past
-        → IsRun (duty_by (sent_plan (question_seen question.entry) meant.entry.centre.now
-        meant.entry.key past (link_given given.now)) (texts_of told))
-        told (O.told outside.new) result }
+    ensures { (past : Past) → IsMeant meant.entry past
+        → RunsPlan (sent_plan (question_seen question.entry) meant.entry.centre.now
+        meant.entry.key past (link_given given.now))
+        (O.told outside.old) (O.told outside.new) result }
 {
-    let read = read_octets(alloc, outside, question.sent);
+    let read = read_octets(alloc, outside, question.sent, "out");
     verify_sent(alloc, outside, meant, given, read)
 }
 

@@ -21,6 +21,8 @@ use texts::journal::read_entry;
 /// What the history of a journal may weigh at most, in octets.
 const JOURNAL_LIMIT: u64 = 2_147_483_648;
 
+const _: () = prove!(JOURNAL_LIMIT == 2_147_483_648);
+
 /// A reader of a journal.
 #[derive(Drop)]
 struct Reader {

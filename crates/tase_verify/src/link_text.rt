@@ -1,11 +1,12 @@
 //! What a link gave, as a text.
-ghost use Rattle.std.specs.Prelude.{◌≡◌, ◌==◌, position, Ok, Err, IfOk, MatchResult};
+ghost use Rattle.std.specs.Prelude.{◌≡◌, ◌==◌, position, Ok, Err, IfOk, IsOk, IsErr};
+ghost use Rattle.std.specs.Prelude.{MatchResult};
 ghost use Rattle.std.specs.Str.Lines.{lines};
 ghost use Rattle.tase_verify.specs.LinkText as own;
 ghost use Rattle.tase_verify.specs.LinkText.{given_by, given_in, line_told};
 ghost use Rattle.tase_verify.specs.Cuts.{IsCutAtEnd, TakesFirstLine};
 
-use capture_text::read_capture;
+use capture_text::{Pieces, join_pieces, read_pieces};
 use plain_text::{is_skipped, next_line};
 use std::alloc::{AllocError, Global};
 
@@ -17,16 +18,18 @@ pub struct LinkText {
 }
 
 /// What a link gave, of a text that is a capture, with a line `end` behind it where the link has
-/// ended; or the number of the first bad line. Lines count from 1, and the count stands still at
-/// 2^64 - 1; what is skipped in a capture may stand behind `end`, and nothing else.
+/// ended; or the number of the first bad line, which is told whether memory is left or not. Lines
+/// count from 1, and the count stands still at 2^64 - 1; what is skipped in a capture may stand
+/// behind `end`, and nothing else.
 pub fn read_link_text(alloc: Global, text: &[u8]) -> Result<Result<LinkText, u64>, AllocError>
-    ensures { IfOk result (λ read. MatchResult read
+    ensures read { IfOk result (λ read. MatchResult read
         (λ given. given_in text.now ≡ Ok (given.octets.items, given.ended))
         (λ line. given_in text.now ≡ Err line)) }
+    ensures memory { IsErr result → IsOk (given_in text.now) }
 {
     let cut = cut_at_end(text);
-    match read_capture(alloc, cut.front)? {
-        Ok(octets) => Ok(ended_by(octets, cut)),
+    match read_pieces(cut.front) {
+        Ok(pieces) => join_given(alloc, pieces, cut),
         Err(line) => Ok(Err(line)),
     }
 }
@@ -44,21 +47,30 @@ struct Cut<'a> {
     number: u64,
 }
 
-/// These octets, and whether the link has ended, unless there are lines behind `end`.
-fn ended_by(octets: Vec<u8>, cut: Cut<'_>) -> Result<LinkText, u64>
-    ensures { MatchResult result
+/// The octets of these pieces, and whether the link has ended, unless there are lines behind `end`.
+fn join_given(
+    alloc: Global,
+    pieces: Pieces<'_>,
+    cut: Cut<'_>,
+) -> Result<Result<LinkText, u64>, AllocError>
+    ensures read { IfOk result (λ read. MatchResult read
         (λ given. given_by cut.entry.ended
-        (line_told cut.entry.number (lines cut.entry.behind.now)) (Ok octets.items)
+        (line_told cut.entry.number (lines cut.entry.behind.now)) (Ok pieces.entry)
         ≡ Ok (given.octets.items, given.ended))
         (λ line. given_by cut.entry.ended
-        (line_told cut.entry.number (lines cut.entry.behind.now)) (Ok octets.items) ≡ Err line) }
+        (line_told cut.entry.number (lines cut.entry.behind.now)) (Ok pieces.entry) ≡ Err line)) }
+    ensures memory { IsErr result → IsOk (given_by cut.entry.ended
+        (line_told cut.entry.number (lines cut.entry.behind.now)) (Ok pieces.entry)) }
 {
     match first_told(cut.behind, cut.number) {
-        Some(line) => Err(line),
-        None => Ok(LinkText {
-            octets,
-            ended: cut.ended,
-        }),
+        Some(line) => Ok(Err(line)),
+        None => match join_pieces(alloc, pieces) {
+            Ok(octets) => Ok(Ok(LinkText {
+                octets,
+                ended: cut.ended,
+            })),
+            Err(AllocError) => Err(AllocError),
+        },
     }
 }
 

@@ -143,4 +143,8 @@ impl<O: Outside, R: time::Clock + Copy> Outside for HeldOutside<O, R> {
     fn faults(&self) -> u64 {
         self.outside.faults()
     }
+
+    fn note(&self, words: &str) {
+        self.outside.note(words);
+    }
 }

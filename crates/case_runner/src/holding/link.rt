@@ -84,4 +84,8 @@ impl<L: Link, R: time::Clock> Link for HeldLink<L, R> {
     fn faults(&self) -> u64 {
         self.link.faults()
     }
+
+    fn note(&self, words: &str) {
+        self.link.note(words);
+    }
 }

@@ -1,6 +1,7 @@
 -- What waits is sent and written.
 use Rattle.std.proofs.Common.{◌≡◌, ℕ, Bool, true, false, List, [], ◌++◌, ◌⊎◌, inl, inr, take, drop}
 use Rattle.std.proofs.Common.{Option, Some, sym, ap, subst, ◌∙◌, append_assoc}
+use Rattle.std.specs.Prelude.{option_map}
 use Rattle.std.proofs.lemmas.List.{append-nil, take-append-drop}
 use Rattle.outside.specs.Sink.{SinkTold, AppendsAll, AppendsPart}
 use Rattle.outside.proofs.Writing.{Appends-append}
@@ -18,6 +19,7 @@ use Rattle.centre_client.specs.declared.service.run_end.RunEnd.TheVariants.{Ende
 use Rattle.centre_client.specs.declared.service.talking.Talk.{Talk}
 use Rattle.centre_client.specs.Service.LinkOctets.{octets_given}
 use Rattle.centre_client.specs.Service.Sends.{SendsOut, IsLastRefused, IsLeftBySend, is_send_fault}
+use Rattle.centre_client.specs.Service.Terminals.{TerminalTold, IsUnwritten}
 use Rattle.centre_client.specs.Service.Runs.{MayBeUnsaid, MayBeUnshown, IsClientEnd, owes_client}
 use Rattle.centre_client.specs.Service.Playing.{RunStart, PlaysSoFar, IsFlushed, EndsOver}
 use Rattle.centre_client.proofs.OfService.EndsHeard.{no_memory}
@@ -52,11 +54,10 @@ refused_first unsaid (inl e) = inl e
 refused_first unsaid (inr p) = inr p.0
 
 -- a client that has ended, when what it said and showed last is out
-pub ends_flushed : (start : RunStart) (link : LinkTold) (sink : SinkTold) (talk : Talk)
-    (end : ClientEnd) → IsFlushed start link sink talk → talk.client.calling.end ≡ Some end
-    → EndsOver start link sink (Ended end)
-ends_flushed start link sink talk end f e =
-    let so : PlaysSoFar start link sink talk = f.so_far in record {
+pub ends_flushed : (start : RunStart) (t : TerminalTold) (talk : Talk) (end : ClientEnd)
+    → IsFlushed start t talk → talk.client.calling.end ≡ Some end → EndsOver start t (Ended end)
+ends_flushed start t talk end f e =
+    let so : PlaysSoFar start t talk = f.so_far in record {
       now = so.now;
       given = so.given;
       taken = so.taken;
@@ -64,9 +65,12 @@ ends_flushed start link sink talk end f e =
       uses = so.uses;
       appends = so.appends;
       timely = so.timely;
+      moments = so.moments;
+      told = so.told;
+      written = so.written;
       unsaid = talk.out.items;
       said = so.said;
-      all_said = said_owed (owes_client end) talk.out.items link
+      all_said = said_owed (owes_client end) talk.out.items t.link
           (refused_first talk.out.items f.sent);
       unshown = talk.shown.items;
       shown = so.shown;
@@ -87,23 +91,34 @@ left_by All link now out e left = inl left
 left_by Front link now out e left = inr left
 left_by Failed link now out e left = absurd cc
 
-module _ (start : RunStart) (link : LinkTold) (sink : SinkTold) (old : Talk)
-    (so : PlaysSoFar start link sink old) where
-  pub heard_now : HasHeard link so.now
-  heard_now = heard_then start.link link start.heard so.now so.given so.taken false so.uses
+module _ (start : RunStart) (t : TerminalTold) (old : Talk) (so : PlaysSoFar start t old) where
+  abbrev first : LinkTold
+  first = start.terminal.link
 
-  module _ (after : LinkTold) (sent : Sent) (out : List ℕ)
-      (s : SendsOut link after so.now old.out.items out sent) where
+  pub heard_now : HasHeard t.link so.now
+  heard_now = heard_then first t.link start.heard so.now so.given so.taken false so.uses
+
+  module _ (after : TerminalTold) (sent : Sent) (out : List ℕ)
+      (s : SendsOut t.link after.link so.now old.out.items out sent)
+      (unwritten : IsUnwritten t after) where
     uses_sent : (fault : Bool) → is_send_fault sent ≡ fault
-        → UsesLink start.link after start.heard s.now so.given (so.taken ++ s.taken) fault
+        → UsesLink first after.link start.heard s.now so.given (so.taken ++ s.taken) fault
     uses_sent fault e =
         subst (λ (b : Bool).
-        UsesLink start.link after start.heard s.now so.given (so.taken ++ s.taken) b) e
+        UsesLink first after.link start.heard s.now so.given (so.taken ++ s.taken) b) e
         (subst (λ (l : List LinkAnswer).
-        UsesLink start.link after start.heard s.now l (so.taken ++ s.taken) (is_send_fault sent))
+        UsesLink first after.link start.heard s.now l (so.taken ++ s.taken) (is_send_fault sent))
         (append-nil so.given)
-        (uses_then start.link link after start.heard so.now s.now so.given [] so.taken s.taken
+        (uses_then first t.link after.link start.heard so.now s.now so.given [] so.taken s.taken
         (is_send_fault sent) so.uses s.uses))
+
+    appended : AppendsAll start.terminal.sink after.sink so.lines
+    appended = subst (λ (k : SinkTold). AppendsAll start.terminal.sink k so.lines)
+        (sym unwritten.sink) so.appends
+
+    told_then : after.moments
+        ≡ option_map (λ (l : List SinkTold). l ++ so.moments) start.terminal.moments
+    told_then = unwritten.moments ∙ so.told
 
     said_sent : (client_of start.rows start.script (octets_given so.given)).said
         ≡ (so.taken ++ s.taken) ++ out
@@ -111,15 +126,18 @@ module _ (start : RunStart) (link : LinkTold) (sink : SinkTold) (old : Talk)
         ∙ sym (append_assoc so.taken s.taken out)
 
     -- the link has failed
-    pub link_failed : is_send_fault sent ≡ true → EndsOver start after sink LinkFault
+    pub link_failed : is_send_fault sent ≡ true → EndsOver start after LinkFault
     link_failed e = record {
       now = s.now;
       given = so.given;
       taken = so.taken ++ s.taken;
       lines = so.lines;
       uses = uses_sent true e;
-      appends = so.appends;
+      appends = appended;
       timely = so.timely;
+      moments = so.moments;
+      told = told_then;
+      written = so.written;
       unsaid = out;
       said = said_sent;
       all_said = tt;
@@ -130,56 +148,72 @@ module _ (start : RunStart) (link : LinkTold) (sink : SinkTold) (old : Talk)
       memory = λ e. absurd cc;
     }
 
-    -- the sink has failed
-    pub sink_failed : (filled : SinkTold) → is_send_fault sent ≡ false
-        → AppendsPart sink filled old.shown.items true → EndsOver start after filled SinkFault
-    sink_failed filled e p =
-        let lines : List ℕ = old.shown.items in record {
+    module _ (last : TerminalTold) (link_is : last.link ≡ after.link)
+        (moments_are : last.moments ≡ after.moments) where
+      uses_shown : is_send_fault sent ≡ false
+          → UsesLink first last.link start.heard s.now so.given (so.taken ++ s.taken) false
+      uses_shown e = subst (λ (l : LinkTold).
+          UsesLink first l start.heard s.now so.given (so.taken ++ s.taken) false)
+          (sym link_is) (uses_sent false e)
+
+      -- the sink has failed
+      pub sink_failed : is_send_fault sent ≡ false
+          → AppendsPart after.sink last.sink old.shown.items true → EndsOver start last SinkFault
+      sink_failed e p =
+          let lines : List ℕ = old.shown.items in record {
+            now = s.now;
+            given = so.given;
+            taken = so.taken ++ s.taken;
+            lines = so.lines ++ take p.0 lines;
+            uses = uses_shown e;
+            appends = Appends-append start.terminal.sink after.sink last.sink so.lines
+                (take p.0 lines) true appended p.1;
+            timely = so.timely;
+            moments = so.moments;
+            told = moments_are ∙ told_then;
+            written = so.written;
+            unsaid = out;
+            said = said_sent;
+            all_said = tt;
+            unshown = drop p.0 lines;
+            shown = so.shown
+                ∙ ap (λ (l : List ℕ). so.lines ++ l) (sym (take-append-drop p.0 lines))
+                ∙ sym (append_assoc so.lines (take p.0 lines) (drop p.0 lines));
+            all_shown = tt;
+            is = tt;
+            memory = λ e. absurd cc;
+          }
+
+      -- neither has failed
+      pub flushed : (new : Talk) → is_send_fault sent ≡ false
+          → AppendsAll after.sink last.sink old.shown.items → new.client ≡ old.client
+          → new.out.items ≡ out → new.shown.items ≡ [] → IsFlushed start last new
+      flushed new e appends client out_is shown_is = record {
+        so_far = record {
           now = s.now;
           given = so.given;
           taken = so.taken ++ s.taken;
-          lines = so.lines ++ take p.0 lines;
-          uses = uses_sent false e;
-          appends = Appends-append start.sink sink filled so.lines (take p.0 lines) true so.appends
-              p.1;
+          lines = so.lines ++ old.shown.items;
+          uses = uses_shown e;
+          appends = Appends-append start.terminal.sink after.sink last.sink so.lines
+              old.shown.items false appended appends;
           timely = so.timely;
-          unsaid = out;
-          said = said_sent;
-          all_said = tt;
-          unshown = drop p.0 lines;
-          shown = so.shown
-              ∙ ap (λ (l : List ℕ). so.lines ++ l) (sym (take-append-drop p.0 lines))
-              ∙ sym (append_assoc so.lines (take p.0 lines) (drop p.0 lines));
-          all_shown = tt;
-          is = tt;
-          memory = λ e. absurd cc;
-        }
-
-    -- neither has failed
-    pub flushed : (filled : SinkTold) (new : Talk) → is_send_fault sent ≡ false
-        → AppendsAll sink filled old.shown.items → new.client ≡ old.client
-        → new.out.items ≡ out → new.shown.items ≡ [] → IsFlushed start after filled new
-    flushed filled new e appends client out_is shown_is = record {
-      so_far = record {
-        now = s.now;
-        given = so.given;
-        taken = so.taken ++ s.taken;
-        lines = so.lines ++ old.shown.items;
-        uses = uses_sent false e;
-        appends = Appends-append start.sink sink filled so.lines old.shown.items false so.appends
-            appends;
-        timely = so.timely;
-        goes = so.goes;
-        rows_are = ap (λ (c : Caller). c.rows) client ∙ so.rows_are;
-        stands = subst (λ (c : Caller).
-            ClientStands start.rows start.script (octets_given so.given) c.calling) (sym client)
-            so.stands;
-        said = said_sent ∙ ap (λ (l : List ℕ). (so.taken ++ s.taken) ++ l) (sym out_is);
-        shown = so.shown ∙ sym (append-nil (so.lines ++ old.shown.items))
-            ∙ ap (λ (l : List ℕ). (so.lines ++ old.shown.items) ++ l) (sym shown_is);
-      };
-      sent = subst (λ (l : List ℕ). (l ≡ [])
-          ⊎ (IsLastRefused after × (s.now.after_nothing ≡ true))) (sym out_is)
-          (left_by sent after s.now out e s.left);
-      written = shown_is;
-    }
+          moments = so.moments;
+          told = moments_are ∙ told_then;
+          written = so.written;
+          goes = so.goes;
+          rows_are = ap (λ (c : Caller). c.rows) client ∙ so.rows_are;
+          stands = subst (λ (c : Caller).
+              ClientStands start.rows start.script (octets_given so.given) c.calling) (sym client)
+              so.stands;
+          said = said_sent ∙ ap (λ (l : List ℕ). (so.taken ++ s.taken) ++ l) (sym out_is);
+          shown = so.shown ∙ sym (append-nil (so.lines ++ old.shown.items))
+              ∙ ap (λ (l : List ℕ). (so.lines ++ old.shown.items) ++ l) (sym shown_is);
+        };
+        sent = subst (λ (l : List ℕ). (l ≡ [])
+            ⊎ (IsLastRefused last.link × (s.now.after_nothing ≡ true))) (sym out_is)
+            (subst (λ (l : LinkTold). (out ≡ [])
+            ⊎ (IsLastRefused l × (s.now.after_nothing ≡ true))) (sym link_is)
+            (left_by sent after.link s.now out e s.left));
+        written = shown_is;
+      }

@@ -12,6 +12,16 @@ use Rattle.node_server.specs.Links.LinkUses.{HasHeard, UsesLink}
 use Rattle.node_server.proofs.OfLinks.Uses.{uses_none, uses_then, heard_then, send_uses}
 use Rattle.centre_client.specs.declared.service.sending.Sent.TheVariants.{All, Front, Failed}
 use Rattle.centre_client.specs.Service.Sends.{SendsOut, IsLastRefused}
+use Rattle.centre_client.specs.Service.Terminals.{TerminalTold, IsUnwritten}
+
+-- nothing is written
+pub unwritten_none : (t : TerminalTold) → IsUnwritten t t
+unwritten_none t = record { sink = refl; moments = refl }
+
+pub unwritten_then : (before between after : TerminalTold) → IsUnwritten before between
+    → IsUnwritten between after → IsUnwritten before after
+unwritten_then before between after u v =
+    record { sink = v.sink ∙ u.sink; moments = v.moments ∙ u.moments }
 
 -- the first of the octets that waited were taken
 pub record SentSoFar (before after : LinkTold) (first : LinkAnswers) (old new : List ℕ) :

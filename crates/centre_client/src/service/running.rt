@@ -1,6 +1,5 @@
-//! A client, run over a link and a sink.
+//! A client, run over a terminal.
 ghost use Rattle.std.specs.Prelude.{◌≡◌, ℕ, ◌<◌, ◌≤◌, List, length, Some, None};
-ghost use Rattle.outside.specs.Sink.{SinkTold};
 ghost use Rattle.outside.specs.Links.LinkAnswers.{LinkAnswers};
 ghost use Rattle.node_server.specs.Links.LinkUses.{HasHeard};
 ghost use Rattle.bilateral.specs.Rows.{CentreRows};
@@ -14,47 +13,40 @@ use crate::ClientEnd;
 use crate::service::run_end::RunEnd;
 use crate::service::sending::{Sent, send_out};
 use crate::service::talking::Talk;
-use outside::links::{Link, Recv};
-use outside::{Sink, write_all};
+use crate::service::terminal::Terminal;
+use outside::links::Recv;
 use std::alloc::AllocError;
 use std::sync::Wait;
 
 /// So many octets are received at a time, at most.
 const PIECE: usize = 16_384;
 
-/// Runs a client over a link, turn by turn: what it says is sent, what it shows is written, and
+/// Runs a client over a terminal, turn by turn: what it says is sent, what it shows is written, and
 /// then the link is asked for more. It closes nothing.
-pub fn run_client<R: Wait, L: Link, K: Sink>(
-    rt: &R,
-    talk: &mut Talk,
-    link: &mut L,
-    sink: &mut K,
-) -> RunEnd
+pub fn run_client<R: Wait, T: Terminal>(rt: &R, talk: &mut Talk, terminal: &mut T) -> RunEnd
     ensures { (rows : CentreRows) (text : List ℕ) (first : LinkAnswers)
-        → IsTalk rows text talk.old → HasHeard (L.told link.old) first
-        → PlaysText rows text (L.told link.old) (L.told link.new) first
-        (K.told sink.old) (K.told sink.new) result }
+        → IsTalk rows text talk.old → HasHeard (T.told terminal.old).link first
+        → PlaysText rows text (T.told terminal.old) (T.told terminal.new) first result }
 {
     let mut room = [0u8; PIECE];
-    play_on(rt, talk, &mut room, link, sink)
+    play_on(rt, talk, &mut room, terminal)
 }
 
 /// Plays on, turn by turn, to the end.
-fn play_on<R: Wait, L: Link, K: Sink>(
+fn play_on<R: Wait, T: Terminal>(
     rt: &R,
     talk: &mut Talk,
     room: &mut [u8],
-    link: &mut L,
-    sink: &mut K,
+    terminal: &mut T,
 ) -> RunEnd
     requires room { 0 < length room.old }
     requires few { length room.old ≤ PIECE }
-    ensures { (start : RunStart) → PlaysSoFar start (L.told link.old) (K.told sink.old) talk.old
+    ensures { (start : RunStart) → PlaysSoFar start (T.told terminal.old) talk.old
         → talk.old.client.calling.end ≡ None
-        → EndsOver start (L.told link.new) (K.told sink.new) result }
+        → EndsOver start (T.told terminal.new) result }
 {
     for _ in rt.forever() {
-        if let Some(end) = play_once(talk, room, link, sink) {
+        if let Some(end) = play_once(talk, room, terminal) {
             return end;
         }
     }
@@ -62,52 +54,47 @@ fn play_on<R: Wait, L: Link, K: Sink>(
 }
 
 /// One turn. None where it goes on.
-fn play_once<L: Link, K: Sink>(
-    talk: &mut Talk,
-    room: &mut [u8],
-    link: &mut L,
-    sink: &mut K,
-) -> Option<RunEnd>
+fn play_once<T: Terminal>(talk: &mut Talk, room: &mut [u8], terminal: &mut T) -> Option<RunEnd>
     requires room { 0 < length room.old }
     requires few { length room.old ≤ PIECE }
-    ensures { (start : RunStart) → PlaysSoFar start (L.told link.old) (K.told sink.old) talk.old
+    ensures { (start : RunStart) → PlaysSoFar start (T.told terminal.old) talk.old
         → talk.old.client.calling.end ≡ None
-        → PlayedBy result start (L.told link.new) (K.told sink.new) talk.new }
+        → PlayedBy result start (T.told terminal.new) talk.new }
 {
-    match flush(talk, link, sink) {
+    match flush(talk, terminal) {
         Some(end) => Some(end),
-        None => match receive(talk, room, link) {
+        None => match receive(talk, room, terminal) {
             Intake::GoesOn => None,
-            Intake::Ends(end) => Some(leave(talk, link, sink, end)),
+            Intake::Ends(end) => Some(leave(talk, terminal, end)),
             Intake::Fails(end) => Some(end),
         },
     }
 }
 
 /// Sends and writes what waits, and ends so.
-fn leave<L: Link, K: Sink>(talk: &mut Talk, link: &mut L, sink: &mut K, end: ClientEnd) -> RunEnd
-    ensures { (start : RunStart) → PlaysSoFar start (L.told link.old) (K.told sink.old) talk.old
+fn leave<T: Terminal>(talk: &mut Talk, terminal: &mut T, end: ClientEnd) -> RunEnd
+    ensures { (start : RunStart) → PlaysSoFar start (T.told terminal.old) talk.old
         → talk.old.client.calling.end ≡ Some end
-        → EndsOver start (L.told link.new) (K.told sink.new) result }
+        → EndsOver start (T.told terminal.new) result }
 {
-    match flush(talk, link, sink) {
+    match flush(talk, terminal) {
         Some(fault) => fault,
         None => RunEnd::Ended(end),
     }
 }
 
 /// Sends what waits, and writes what is shown. None where neither has failed.
-fn flush<L: Link, K: Sink>(talk: &mut Talk, link: &mut L, sink: &mut K) -> Option<RunEnd>
+fn flush<T: Terminal>(talk: &mut Talk, terminal: &mut T) -> Option<RunEnd>
     ensures flushes { (start : RunStart)
-        → PlaysSoFar start (L.told link.old) (K.told sink.old) talk.old
-        → FlushedBy result start (L.told link.new) (K.told sink.new) talk.new }
+        → PlaysSoFar start (T.told terminal.old) talk.old
+        → FlushedBy result start (T.told terminal.new) talk.new }
     ensures client { talk.new.client ≡ talk.old.client }
 {
-    let sent = send_out(link, &mut talk.out);
+    let sent = send_out(terminal, &mut talk.out);
     if has_failed(sent) {
         return Some(RunEnd::LinkFault);
     }
-    match write_all(sink, talk.shown.as_slice()) {
+    match terminal.show(talk.shown.as_slice()) {
         Ok(()) => {
             talk.shown.truncate(0);
             None
@@ -134,14 +121,14 @@ enum Intake {
 }
 
 /// Receives once, and hears what came.
-fn receive<L: Link>(talk: &mut Talk, room: &mut [u8], link: &mut L) -> Intake
+fn receive<T: Terminal>(talk: &mut Talk, room: &mut [u8], terminal: &mut T) -> Intake
     requires room { 0 < length room.old }
     requires few { length room.old ≤ PIECE }
-    ensures { (start : RunStart) (sink : SinkTold)
-        → IsFlushed start (L.told link.old) sink talk.old → talk.old.client.calling.end ≡ None
-        → TakenBy result start (L.told link.new) sink talk.new }
+    ensures { (start : RunStart) → IsFlushed start (T.told terminal.old) talk.old
+        → talk.old.client.calling.end ≡ None
+        → TakenBy result start (T.told terminal.new) talk.new }
 {
-    match link.recv(room) {
+    match terminal.recv(room) {
         Recv::Got(count) => hear(talk, &room[..count]),
         Recv::Idle => Intake::GoesOn,
         Recv::End => Intake::Fails(RunEnd::Ended(talk.client.peer_end())),

@@ -3,9 +3,10 @@ ghost use Rattle.std.specs.Prelude.{◌≡◌, ◌≤◌, drop, vec_len};
 ghost use Rattle.outside.specs.Links.LinkAnswers.{LinkAnswers};
 ghost use Rattle.node_server.specs.Links.LinkUses.{HasHeard};
 ghost use Rattle.centre_client.specs.Service.Sends.{SendsOut};
+ghost use Rattle.centre_client.specs.Service.Terminals.{IsUnwritten};
 
+use crate::service::terminal::Terminal;
 use outside::WriteEnd;
-use outside::links::Link;
 
 /// How the sends of a turn ended.
 #[derive(Clone, Copy, Debug, PartialEq, Eq)]
@@ -19,13 +20,15 @@ pub(crate) enum Sent {
 }
 
 /// Sends the octets that wait, until none do, or the link takes nothing, or fails.
-pub(crate) fn send_out<L: Link>(link: &mut L, out: &mut Vec<u8>) -> Sent
-    ensures { (first : LinkAnswers) → HasHeard (L.told link.old) first
-        → SendsOut (L.told link.old) (L.told link.new) first out.old.items out.new.items result }
+pub(crate) fn send_out<T: Terminal>(terminal: &mut T, out: &mut Vec<u8>) -> Sent
+    ensures sends { (first : LinkAnswers) → HasHeard (T.told terminal.old).link first
+        → SendsOut (T.told terminal.old).link (T.told terminal.new).link first
+        out.old.items out.new.items result }
+    ensures unwritten { IsUnwritten (T.told terminal.old) (T.told terminal.new) }
 {
     'sends: while !out.as_slice().is_empty() {
         let waits = out.as_slice();
-        match link.send(waits) {
+        match terminal.send(waits) {
             WriteEnd::Took(count) => {
                 if count == 0 {
                     return Sent::Front;

@@ -1,6 +1,6 @@
 -- A run that writes a file once all is said.
 use Rattle.std.proofs.Common.{◌≡◌, ℕ, Bool, true, false, List, [], ◌∷◌, length, Option}
-use Rattle.std.proofs.Common.{refl, sym, subst}
+use Rattle.std.proofs.Common.{refl, sym, subst, inl, inr}
 use Rattle.std.proofs.Math.Seq.{take-length}
 use Rattle.outside.specs.Octets.{Adds}
 use Rattle.outside.specs.Names.Outside.{OutsideTold, Asks}
@@ -133,6 +133,7 @@ module _ (b : OutsideTold) (said : Said) (alone : said.files ≡ []) (name octet
             printed = OnWhole-all behind
                 (Asks-append b.written_names m.written_names a.written_names (output_name ∷ [])
                 (name ∷ []) asked files.tells.asked);
+            filed = inr output_took;
             complete = complete_of (duty_to_say true (with_file name octets said)) b a behind told
                 used;
           }
@@ -202,6 +203,7 @@ module _ (b : OutsideTold) (said : Said) (alone : said.files ≡ []) (name octet
         uses = used;
         opened = cut _;
         printed = cut _;
+        filed = inl (outputs_before a (is_outside status) run.uses).written;
         complete = complete_of (duty_to_say true (with_file name octets said)) b a status told used;
       }
 

@@ -1,6 +1,7 @@
 -- That a command whose inputs are read in turn does what its plan says.
-use Rattle.std.proofs.Common.{◌≡◌, ℕ, Bool, true, false, ◌||◌, ◌<◌, ◌≤◌, cond, List, [], ◌∷◌}
-use Rattle.std.proofs.Common.{◌++◌, length, refl, sym, ◌∙◌, ap, subst, arith, append_assoc}
+use Rattle.std.proofs.Common.{◌≡◌, ℕ, Bool, true, false, ◌||◌, ◌<◌, ◌≤◌, cond, List, []}
+use Rattle.std.proofs.Common.{◌+◌, length, replicate, refl, sym, ◌∙◌, ap, subst, arith}
+use Rattle.std.proofs.lemmas.List.{length-replicate}
 use Rattle.std.specs.Prelude.{Result, Ok, Err, Vec, IfOk, MatchResult, bytes_eq, nat_lt}
 use Rattle.std.specs.declared.alloc.AllocError.{AllocError}
 use Rattle.std.specs.declared.alloc.Global.{Global}
@@ -13,128 +14,82 @@ use Rattle.commands.specs.declared.io.input.Refusal.TheVariants.{Long, BadLine}
 use Rattle.commands.specs.declared.io.input.InputEnd.{InputEnd}
 use Rattle.commands.specs.declared.io.input.InputEnd.TheVariants.{Refused, Outside, Memory}
 use Rattle.commands.specs.Io.Saying.{Said, Text, untold, missing, told, emptied, text_of, texts_of}
-use Rattle.commands.specs.Io.Saying.{Duty, names_in, files_written, duty_to_say}
-use Rattle.commands.specs.Io.Inputs.{value_or_end, value_as, IsInput, ReadsInput}
+use Rattle.commands.specs.Io.Saying.{Duty, prints, duty_to_say}
+use Rattle.commands.specs.Io.Inputs.{value_or_end, value_as, IsInput, ReadsInput, OpensInput}
+use Rattle.commands.specs.Io.Statuses.{is_outside}
 use Rattle.commands.specs.Io.Runs.{IsRun}
 use Rattle.commands.specs.Io.Plans.{Asked, Plan, says, reads, refused_said, by_value, reads_value}
-use Rattle.commands.specs.Io.Plans.{texts_behind, duty_told, opening, duty_by, EndsPlan, IsSpelled}
+use Rattle.commands.specs.Io.Plans.{texts_behind, opening, IsFound, OwesWithin, OwesFound, Owes}
+use Rattle.commands.specs.Io.Plans.{RunsPlan, EndsPlan, IsSpelled}
 use Rattle.commands.specs.Io.Plans.{IsValue, ReadsValue, OnValue, whole_text, octets_of}
 use Rattle.commands.proofs.OfIo.Exchanging.{name_is}
-use Rattle.commands.proofs.OfIo.Running.{Follows, same_said, nothing_told, IsRun-then, IsRun-unread}
-use Rattle.commands.proofs.OfIo.Running.{IsRun-idle}
+use Rattle.commands.proofs.OfIo.Running.{IsCut, IsRun-then, IsRun-unread, IsRun-idle}
 
--- some names come first among others
-abbrev pub IsFront : List (List ℕ) → List (List ℕ) → Type 0
-IsFront names part = (more : List (List ℕ)) × (names ≡ part ++ more)
+-- a run of a plan has what it owes
+runs_duty : (plan : Plan) (b a : OutsideTold) (status : Status) → RunsPlan plan b a status
+    → (duty : Duty) × Owes plan (texts_of b) duty × IsRun duty b a status
+runs_duty (says said) b a status run = (duty_to_say true said, refl, run)
+runs_duty (reads asked next) b a status run = run
 
--- a plan opens no inputs but the first of these, and writes no files but the first of those
-abbrev pub Fits : Plan → List (List ℕ) → List (List ℕ) → Type 0
-Fits (says said) inputs files = IsFront files (names_in said.files)
-Fits (reads asked next) inputs files = IsFront inputs (asked.file ∷ asked.others)
-    × IsFront files asked.files × ((octets : List ℕ) → Fits (next octets) asked.others asked.files)
+module _ (asked : Asked) (P : List ℕ → Duty → Type 0) where
+  -- a fact of what is owed behind an input, whatever that is found to be
+  found_fact : (fact : Duty → Type 0)
+      → ((said : Said) → fact (duty_to_say true said))
+      → ((octets : List ℕ) (duty : Duty) → P octets duty → fact duty)
+      → (found : Text) (duty : Duty) → OwesFound asked P found duty → fact duty
+  found_fact fact told_so behind untold duty owes = absurd owes
+  found_fact fact told_so behind missing duty owes =
+      subst fact (sym owes) (told_so (prints statuses.Outside []))
+  found_fact fact told_so behind (told octets) duty owes =
+      by (nat_lt asked.limit (length octets)) owes
+    where
+      by : (long : Bool) → OwesWithin long (duty_to_say true (refused_said asked.called Long))
+          (P octets) duty → fact duty
+      by true o = subst fact (sym o) (told_so (refused_said asked.called Long))
+      by false o = behind octets duty o
 
-IsFront-then : (names part rest : List (List ℕ)) → IsFront names part → IsFront part rest
-    → IsFront names rest
-IsFront-then names part rest first then = (
-  then.0 ++ first.0,
-  first.1 ∙ ap (λ (l : List (List ℕ)). l ++ first.0) then.1 ∙ append_assoc rest then.0 first.0,
-)
+  -- what is owed where each octets owe something else
+  found_map : (Q : List ℕ → Duty → Type 0)
+      → ((octets : List ℕ) (duty : Duty) → P octets duty → Q octets duty)
+      → (found : Text) (duty : Duty) → OwesFound asked P found duty → OwesFound asked Q found duty
+  found_map Q each untold duty owes = owes
+  found_map Q each missing duty owes = owes
+  found_map Q each (told octets) duty owes = by (nat_lt asked.limit (length octets)) owes
+    where
+      by : (long : Bool) → OwesWithin long (duty_to_say true (refused_said asked.called Long))
+          (P octets) duty
+          → OwesWithin long (duty_to_say true (refused_said asked.called Long)) (Q octets) duty
+      by true o = o
+      by false o = each octets duty o
 
-IsFront-more : (name : List ℕ) (part rest : List (List ℕ)) → IsFront part rest
-    → IsFront (name ∷ part) (name ∷ rest)
-IsFront-more name part rest front = (front.0, ap (λ (l : List (List ℕ)). name ∷ l) front.1)
-
--- a plan that writes no file
-pub Fits-alone : (said : Said) (inputs files : List (List ℕ)) → said.files ≡ []
-    → Fits (says said) inputs files
-Fits-alone said inputs files alone = (
-  files,
-  ap (λ (written : List (List ℕ × List ℕ)). names_in written ++ files) (sym alone),
-)
-
--- a refused value writes none
-pub Fits-value : {V : Type 0} (called : List ℕ) (then : V → Plan) (inputs files : List (List ℕ))
-    → ((value : V) → Fits (then value) inputs files) → (spelled : Result V ℕ)
-    → Fits (by_value called then spelled) inputs files
-Fits-value called then inputs files fits (Ok value) = fits value
-Fits-value called then inputs files fits (Err line) = (files, refl)
-
--- what is owed behind an input with these octets
-abbrev Behind : Asked → (List ℕ → Plan) → (List ℕ → Text) → List ℕ → Duty
-Behind asked next texts octets = duty_by (next octets) (texts_behind texts asked.file)
-
--- what a plan owes opens and writes no more
-abbrev DutyFits : Duty → List (List ℕ) → List (List ℕ) → Type 0
-DutyFits duty inputs files =
-    IsFront inputs duty.inputs × IsFront files (files_written duty.says duty.may_write)
-
-duty_fits : (plan : Plan) (inputs files : List (List ℕ)) → Fits plan inputs files
-    → (texts : List ℕ → Text) → DutyFits (duty_by plan texts) inputs files
-duty_fits (says said) inputs files fits texts = ((inputs, refl), fits)
-duty_fits (reads asked next) inputs files fits texts =
-    here (texts asked.file)
-    (λ octets. duty_fits (next octets) asked.others asked.files (fits.2 octets)
-    (texts_behind texts asked.file))
-  where
-    alone : IsFront inputs (asked.file ∷ [])
-    alone = IsFront-then inputs (asked.file ∷ asked.others) (asked.file ∷ []) fits.0
-        (asked.others, refl)
-
-    here : (t : Text)
-        → ((octets : List ℕ) → DutyFits (Behind asked next texts octets)
-        asked.others asked.files)
-        → DutyFits (opening asked.file
-        (duty_told asked (Behind asked next texts) t))
-        inputs files
-    here untold rest = (fits.0, fits.1)
-    here missing rest = (alone, (files, refl))
-    here (told octets) rest =
-        by (nat_lt asked.limit (length octets)) (Behind asked next texts octets)
-        (rest octets)
-      where
-        by : (long : Bool) (behind : Duty) → DutyFits behind asked.others asked.files
-            → DutyFits (opening asked.file
-            (cond long (duty_to_say true (refused_said asked.called Long)) behind)) inputs files
-        by true behind fitting = (alone, (files, refl))
-        by false behind fitting = (
-          IsFront-then inputs (asked.file ∷ asked.others) (asked.file ∷ behind.inputs) fits.0
-              (IsFront-more asked.file asked.others behind.inputs fitting.0),
-          IsFront-then files asked.files (files_written behind.says behind.may_write) fits.1
-              fitting.1,
-        )
-
--- a plan is of words that are a command
-pub plan_command : (plan : Plan) (texts : List ℕ → Text) → (duty_by plan texts).is_command ≡ true
-plan_command (says said) texts = refl
-plan_command (reads asked next) texts =
-    here (texts asked.file)
-    (λ octets. plan_command (next octets) (texts_behind texts asked.file))
-  where
-    here : (t : Text)
-        → ((octets : List ℕ) → (Behind asked next texts octets).is_command
-        ≡ true)
-        → (duty_told asked (Behind asked next texts)
-        t).is_command ≡ true
-    here untold rest = refl
-    here missing rest = refl
-    here (told octets) rest = by (nat_lt asked.limit (length octets))
-      where
-        by : (long : Bool) → (cond long (duty_to_say true (refused_said asked.called Long))
-            (Behind asked next texts octets)).is_command ≡ true
-        by true = refl
-        by false = rest octets
+-- what a plan owes is owed for words that are a command
+owes_command : (plan : Plan) (texts : List ℕ → Text) (duty : Duty) → Owes plan texts duty
+    → duty.is_command ≡ true
+owes_command (says said) texts duty owes = ap (λ (d : Duty). d.is_command) owes
+owes_command (reads asked next) texts duty owes =
+    ap (λ (d : Duty). d.is_command) owes.2.2
+    ∙ found_fact asked (λ octets. Owes (next octets) (texts_behind texts asked.file))
+    (λ d. d.is_command ≡ true) (λ said. refl)
+    (λ octets d o. owes_command (next octets) (texts_behind texts asked.file) d o)
+    owes.0 owes.2.0 owes.2.1
 
 -- what a plan owes depends on what is told under each name alone
-duty_same : (plan : Plan) (s t : List ℕ → Text) → ((name : List ℕ) → s name ≡ t name)
-    → duty_by plan s ≡ duty_by plan t
-duty_same (says said) s t same = refl
-duty_same (reads asked next) s t same =
-    ap (λ x. opening asked.file
-    (duty_told asked (Behind asked next s) x))
-    (same asked.file)
-    ∙ here (t asked.file)
-    (λ octets. duty_same (next octets) (texts_behind s asked.file) (texts_behind t asked.file)
-    behind)
+owes_same : (plan : Plan) (s t : List ℕ → Text) → ((name : List ℕ) → s name ≡ t name)
+    → (duty : Duty) → Owes plan s duty → Owes plan t duty
+owes_same (says said) s t same duty owes = owes
+owes_same (reads asked next) s t same duty owes = (
+  owes.0,
+  subst (λ t. IsFound t owes.0) (same asked.file) owes.1,
+  (
+    owes.2.0,
+    found_map asked (λ octets. Owes (next octets) (texts_behind s asked.file))
+        (λ octets. Owes (next octets) (texts_behind t asked.file))
+        (λ octets d o. owes_same (next octets) (texts_behind s asked.file)
+        (texts_behind t asked.file) behind d o)
+        owes.0 owes.2.0 owes.2.1,
+    owes.2.2,
+  ),
+)
   where
     behind : (name : List ℕ) → texts_behind s asked.file name ≡ texts_behind t asked.file name
     behind name = by (bytes_eq name asked.file)
@@ -144,24 +99,49 @@ duty_same (reads asked next) s t same =
         by true = ap emptied (same asked.file)
         by false = same name
 
-    here : (x : Text)
-        → ((octets : List ℕ) → Behind asked next s octets
-        ≡ Behind asked next t octets)
-        → opening asked.file
-        (duty_told asked (Behind asked next s) x)
-        ≡ opening asked.file
-        (duty_told asked (Behind asked next t) x)
-    here untold rest = refl
-    here missing rest = refl
-    here (told octets) rest =
-        ap (λ (d : Duty). opening asked.file (cond (nat_lt asked.limit (length octets))
-        (duty_to_say true (refused_said asked.called Long)) d)) (rest octets)
+-- something is owed
+pub owes_some : (plan : Plan) (texts : List ℕ → Text) → (duty : Duty) × Owes plan texts duty
+owes_some (says said) texts = (duty_to_say true said, refl)
+owes_some (reads asked next) texts =
+    here (texts asked.file) (λ octets. owes_some (next octets) (texts_behind texts asked.file))
+  where
+    here : (t : Text)
+        → ((octets : List ℕ) → (duty : Duty)
+        × Owes (next octets) (texts_behind texts asked.file) duty)
+        → (duty : Duty) × ((found : Text) × IsFound t found × ((rest : Duty)
+        × OwesFound asked (λ octets. Owes (next octets) (texts_behind texts asked.file)) found rest
+        × (duty ≡ opening asked.file rest)))
+    here untold each =
+        let rest : Duty = duty_to_say true (prints statuses.Outside []) in
+        (opening asked.file rest, (missing, tt, (rest, refl, refl)))
+    here missing each =
+        let rest : Duty = duty_to_say true (prints statuses.Outside []) in
+        (opening asked.file rest, (missing, refl, (rest, refl, refl)))
+    here (told octets) each =
+        let rest = by (nat_lt asked.limit (length octets)) in
+        (opening asked.file rest.0, (told octets, refl, (rest.0, rest.1, refl)))
+      where
+        by : (long : Bool) → (rest : Duty)
+            × OwesWithin long (duty_to_say true (refused_said asked.called Long))
+            (λ duty. Owes (next octets) (texts_behind texts asked.file) duty) rest
+        by true = (duty_to_say true (refused_said asked.called Long), refl)
+        by false = each octets
+
+-- memory ran out before anything was opened
+pub RunsPlan-idle : (plan : Plan) (b : OutsideTold) → RunsPlan plan b b statuses.Memory
+RunsPlan-idle (says said) b = IsRun-idle (duty_to_say true said) b refl
+RunsPlan-idle (reads asked next) b =
+    let some = owes_some (reads asked next) (texts_of b) in (
+      some.0,
+      some.1,
+      IsRun-idle some.0 b (owes_command (reads asked next) (texts_of b) some.0 some.1),
+    )
 
 -- a run that ended where it stood
-same_run : (duty : Duty) (b m a : OutsideTold) (s status : Status) → (status ≡ s) × (a ≡ m)
-    → IsRun duty b m s → IsRun duty b a status
-same_run duty b m a s status same run =
-    subst (λ t. IsRun duty b a t) (sym same.0) (subst (λ o. IsRun duty b o s) (sym same.1) run)
+same_run : (P : OutsideTold → Status → Type 0) (m a : OutsideTold) (s status : Status)
+    → (status ≡ s) × (a ≡ m) → P m s → P a status
+same_run P m a s status same run =
+    subst (λ t. P a t) (sym same.0) (subst (λ o. P o s) (sym same.1) run)
 
 is_less : (m n : ℕ) → m < n → nat_lt m n ≡ true
 is_less m n h = grind (arith, nat_tests)
@@ -181,106 +161,123 @@ texts_read b m file limit text input name = here (bytes_eq name file) refl
     here false at =
         ap text_of (sym (input.opens.uses.sources.others name (ap (λ t. t || false) at)))
 
-module _ (b m a : OutsideTold) (asked : Asked) (next : List ℕ → Plan)
-    (fits : (octets : List ℕ) → Fits (next octets) asked.others asked.files) where
-  abbrev Owed : Duty
-  Owed = duty_by (reads asked next) (texts_of b)
+module _ (b m a : OutsideTold) (asked : Asked) (next : List ℕ → Plan) where
+  -- an input was found to be this, and then the rest
+  runs_found : (found : Text) (rest : Duty) (status : Status)
+      → IsFound (texts_of b asked.file) found
+      → OwesFound asked (λ octets. Owes (next octets) (texts_behind (texts_of b) asked.file)) found
+      rest
+      → OpensInput b m asked.file false → IsRun rest m a status
+      → RunsPlan (reads asked next) b a status
+  runs_found found rest status is owes opens run = (
+    opening asked.file rest,
+    (found, is, (rest, owes, refl)),
+    IsRun-then rest b m a asked.file status opens run,
+  )
 
   -- one input is there, and then the rest
   IsRun-there : (text : Vec ℕ Global) (status : Status)
       → ReadsInput b m asked.file asked.limit (Ok text)
-      → IsRun (duty_by (next text.items) (texts_of m)) m a status → IsRun Owed b a status
+      → RunsPlan (next text.items) m a status → RunsPlan (reads asked next) b a status
   IsRun-there text status input run =
-      IsRun-then Owed (duty_by (next text.items) (texts_of m)) b m a asked.file status
-      (plan_command (reads asked next) (texts_of b)) (plan_command (next text.items) (texts_of m))
-      (follows (texts_of b asked.file) input.text) input.opens run
+      let r = runs_duty (next text.items) m a status run in
+      let few : length text.items ≤ asked.limit = few_read (texts_of b asked.file) input.text in
+      runs_found (told text.items) r.0 status (found_so (texts_of b asked.file) input.text)
+      (subst (λ long. OwesWithin long (duty_to_say true (refused_said asked.called Long))
+      (Owes (next text.items) (texts_behind (texts_of b) asked.file)) r.0)
+      (sym (is_within asked.limit (length text.items) few))
+      (owes_same (next text.items) (texts_of m) (texts_behind (texts_of b) asked.file)
+      (λ name. sym (texts_read b m asked.file asked.limit text input name)) r.0 r.1))
+      input.opens r.2
     where
-      follows : (t : Text) → IsInput asked.limit (Ok text) t
-          → Follows (opening asked.file
-          (duty_told asked (Behind asked next (texts_of b)) t))
-          asked.file (duty_by (next text.items) (texts_of m))
-      follows untold is =
-          let rest = duty_fits (next text.items) asked.others asked.files (fits text.items)
-          (texts_of m) in
-          nothing_told rest.0.0 rest.1.0 refl
-          (ap (λ (l : List (List ℕ)). asked.file ∷ l) rest.0.1) rest.1.1
-      follows missing is = absurd cc
-      follows (told octets) is =
-          let same : cond (nat_lt asked.limit (length octets))
-          (duty_to_say true (refused_said asked.called Long))
-          (Behind asked next (texts_of b) octets)
-          ≡ duty_by (next text.items) (texts_of m) =
-          ap (λ c. cond c (duty_to_say true (refused_said asked.called Long))
-          (Behind asked next (texts_of b) octets))
-          (is_within asked.limit (length octets) is.1)
-          ∙ ap (λ (l : List ℕ). Behind asked next (texts_of b) l) is.0
-          ∙ duty_same (next text.items) _ (texts_of m)
-          (texts_read b m asked.file asked.limit text input) in
-          same_said (ap (λ (d : Duty). d.says) same)
-          (ap (λ (d : Duty). asked.file ∷ d.inputs) same) (ap (λ (d : Duty). d.may_write) same)
+      found_so : (t : Text) → IsInput asked.limit (Ok text) t → IsFound t (told text.items)
+      found_so untold is = tt
+      found_so missing is = absurd cc
+      found_so (told octets) is = ap (λ (o : List ℕ). told o) (sym is.0)
+
+      few_read : (t : Text) → IsInput asked.limit (Ok text) t → length text.items ≤ asked.limit
+      few_read untold is = is
+      few_read missing is = absurd cc
+      few_read (told octets) is = subst (λ (o : List ℕ). length o ≤ asked.limit) is.0 is.1
 
   -- it is refused
   IsRun-refused : (refusal : Refusal) (status : Status)
       → ReadsInput b m asked.file asked.limit (Err (Refused refusal))
       → IsRun (duty_to_say true (refused_said asked.called refusal)) m a status
-      → IsRun Owed b a status
+      → RunsPlan (reads asked next) b a status
   IsRun-refused refusal status input run =
-      IsRun-then Owed (duty_to_say true (refused_said asked.called refusal)) b m a asked.file status
-      (plan_command (reads asked next) (texts_of b)) refl
-      (follows refusal (texts_of b asked.file) input.text) input.opens run
+      here refusal (texts_of b asked.file) refl input.text run
     where
-      follows : (r : Refusal) (t : Text) → IsInput asked.limit (Err (Refused r)) t
-          → Follows (opening asked.file
-          (duty_told asked (Behind asked next (texts_of b)) t))
-          asked.file (duty_to_say true (refused_said asked.called r))
-      follows r untold is = nothing_told asked.others asked.files refl refl refl
-      follows r missing is = absurd cc
-      follows Long (told octets) is =
-          let same : cond (nat_lt asked.limit (length octets))
-          (duty_to_say true (refused_said asked.called Long))
-          (Behind asked next (texts_of b) octets)
-          ≡ duty_to_say true (refused_said asked.called Long) =
-          ap (λ c. cond c (duty_to_say true (refused_said asked.called Long))
-          (Behind asked next (texts_of b) octets))
-          (is_less asked.limit (length octets) is) in
-          same_said (ap (λ (d : Duty). d.says) same)
-          (ap (λ (d : Duty). asked.file ∷ d.inputs) same) (ap (λ (d : Duty). d.may_write) same)
-      follows (BadLine line) (told octets) is = absurd is
+      long : (octets : List ℕ) → asked.limit < length octets
+          → IsFound (texts_of b asked.file) (told octets)
+          → IsRun (duty_to_say true (refused_said asked.called Long)) m a status
+          → RunsPlan (reads asked next) b a status
+      long octets many is ran =
+          runs_found (told octets) (duty_to_say true (refused_said asked.called Long)) status is
+          (subst (λ more. OwesWithin more (duty_to_say true (refused_said asked.called Long))
+          (Owes (next octets) (texts_behind (texts_of b) asked.file))
+          (duty_to_say true (refused_said asked.called Long)))
+          (sym (is_less asked.limit (length octets) many)) refl)
+          input.opens ran
+
+      here : (r : Refusal) (t : Text) → texts_of b asked.file ≡ t
+          → IsInput asked.limit (Err (Refused r)) t
+          → IsRun (duty_to_say true (refused_said asked.called r)) m a status
+          → RunsPlan (reads asked next) b a status
+      here Long untold at is ran =
+          let octets : List ℕ = replicate (asked.limit + 1) 0 in
+          long octets (omega (arith, length-replicate {A = ℕ} (asked.limit + 1) 0))
+          (subst (λ t. IsFound t (told octets)) (sym at) tt) ran
+      here Long missing at is ran = absurd cc
+      here Long (told octets) at is ran =
+          long octets is (subst (λ t. IsFound t (told octets)) (sym at) refl) ran
+      here (BadLine line) untold at is ran = absurd is
+      here (BadLine line) missing at is ran = absurd cc
+      here (BadLine line) (told octets) at is ran = absurd is
+
+  -- it isn't there, since something outside failed or memory ran out
+  runs_unread : (status : Status) → IsCut status → OpensInput b m asked.file (is_outside status)
+      → RunsPlan (reads asked next) b m status
+  runs_unread status cut opens =
+      let some = owes_some (reads asked next) (texts_of b) in (
+        some.0,
+        some.1,
+        IsRun-unread some.0 b m asked.file some.1.2.0.inputs status cut
+            (owes_command (reads asked next) (texts_of b) some.0 some.1)
+            (ap (λ (d : Duty). d.inputs) some.1.2.2) opens,
+      )
 
   -- a run of a plan: its first input is read to this, and it goes on by its octets or ends
   pub IsRun-reads : (read : Result (Vec ℕ Global) InputEnd) (status : Status)
       → ReadsInput b m asked.file asked.limit read
       → EndsPlan asked.called (λ (text : Vec ℕ Global). next text.items) read m a status
-      → IsRun (duty_by (reads asked next) (texts_of b)) b a status
+      → RunsPlan (reads asked next) b a status
   IsRun-reads (Ok text) status input run = IsRun-there text status input run
   IsRun-reads (Err (Refused refusal)) status input run = IsRun-refused refusal status input run.0
   IsRun-reads (Err Outside) status input run =
-      same_run Owed b m a statuses.Outside status run
-      (IsRun-unread Owed b m asked.file _ statuses.Outside tt
-      (plan_command (reads asked next) (texts_of b)) refl input.opens)
+      same_run (λ o s. RunsPlan (reads asked next) b o s) m a statuses.Outside status run
+      (runs_unread statuses.Outside tt input.opens)
   IsRun-reads (Err Memory) status input run =
-      same_run Owed b m a statuses.Memory status run
-      (IsRun-unread Owed b m asked.file _ statuses.Memory tt
-      (plan_command (reads asked next) (texts_of b)) refl input.opens)
+      same_run (λ o s. RunsPlan (reads asked next) b o s) m a statuses.Memory status run
+      (runs_unread statuses.Memory tt input.opens)
 
 -- the same by the value that the input spells
 module _ {V : Type 0} (b m a : OutsideTold) (asked : Asked) (spelled : List ℕ → Result V ℕ)
-    (then : V → Plan) (fits : (value : V) → Fits (then value) asked.others asked.files) where
+    (then : V → Plan) where
   spelled_plan : (octets : List ℕ) (result : Result V InputEnd) (status : Status)
       → IsSpelled result (spelled octets) → EndsPlan asked.called then result m a status
-      → IsRun (duty_by (by_value asked.called then (spelled octets)) (texts_of m)) m a status
+      → RunsPlan (by_value asked.called then (spelled octets)) m a status
   spelled_plan octets (Ok value) status is run =
-      subst (λ r. IsRun (duty_by (by_value asked.called then r) (texts_of m)) m a status) (sym is)
+      subst (λ r. RunsPlan (by_value asked.called then r) m a status) (sym is)
       run
   spelled_plan octets (Err (Refused Long)) status is run = absurd is
   spelled_plan octets (Err (Refused (BadLine line))) status is run =
-      subst (λ r. IsRun (duty_by (by_value asked.called then r) (texts_of m)) m a status) (sym is)
+      subst (λ r. RunsPlan (by_value asked.called then r) m a status) (sym is)
       run.0
   spelled_plan octets (Err Outside) status is run = absurd is
   spelled_plan octets (Err Memory) status is run =
       let plan = by_value asked.called then (spelled octets) in
-      same_run (duty_by plan (texts_of m)) m m a statuses.Memory status run
-      (IsRun-idle (duty_by plan (texts_of m)) m (plan_command plan (texts_of m)))
+      same_run (λ o s. RunsPlan plan m o s) m a statuses.Memory status run (RunsPlan-idle plan m)
 
   value_plan : (read : Result (Vec ℕ Global) InputEnd) (result : Result V InputEnd)
       (status : Status) → IsValue spelled read result → EndsPlan asked.called then result m a status
@@ -293,10 +290,9 @@ module _ {V : Type 0} (b m a : OutsideTold) (asked : Asked) (spelled : List ℕ 
   pub IsRun-value : (result : Result V InputEnd) (status : Status)
       → ReadsValue spelled asked.file asked.limit result b m
       → EndsPlan asked.called then result m a status
-      → IsRun (duty_by (reads_value asked spelled then) (texts_of b)) b a status
+      → RunsPlan (reads_value asked spelled then) b a status
   IsRun-value result status value run =
       IsRun-reads b m a asked (λ octets. by_value asked.called then (spelled octets))
-      (λ octets. Fits-value asked.called then asked.others asked.files fits (spelled octets))
       value.0 status value.1 (value_plan value.0 result status value.2 run)
 
 -- what a reader makes of octets, by what its value means

@@ -283,6 +283,7 @@ module _ (b a : OutsideTold) (is_command : Bool) (said_now : Said) (alone : said
     printed = OnWhole-all status
         (subst (λ files. Asks b.written_names a.written_names (output_name ∷ names_in files))
         (sym alone) told_out.asked);
+    filed = inl told_out.uses.written;
     complete = complete_of (duty_to_say is_command said_now) b a status said uses;
   }
     where

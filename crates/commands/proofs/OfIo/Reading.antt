@@ -17,7 +17,7 @@ use Rattle.outside.specs.Names.Outside.{HandsOutObject}
 use Rattle.commands.specs.declared.io.input.InputEnd.TheVariants.{Outside}
 use Rattle.commands.specs.Io.OutsideUse.{IsLimit, SomeOf, Keeps, Rises, source_faults}
 use Rattle.commands.specs.Io.OutsideUse.{sink_faults, FailedAt, FaultyAt, IsTextRead, IsWritten}
-use Rattle.commands.specs.Io.Saying.{told, told_by, text_of, emptied}
+use Rattle.commands.specs.Io.Saying.{untold, told, told_by, text_of, emptied}
 use Rattle.commands.specs.Io.Inputs.{input_of, IsInput, is_lost, IsReadTo, OpensInput, ReadsInput}
 use Rattle.commands.proofs.OfIo.Leaving.{Asks-none}
 use Rattle.commands.proofs.OfIo.Exchanging.{IsExchanged, is_exchanged, Keeps-alike, Keeps-exchanged}
@@ -30,11 +30,20 @@ is_lost-input_of (Ok (Err Failed)) = refl
 is_lost-input_of (Ok (Err Long)) = refl
 is_lost-input_of (Err out_of_memory) = refl
 
+-- what is read where nothing was told
+untold_taken : (limit : ℕ) (result : TextResult) (rest : Option (List ℕ)) (octets : List ℕ)
+    → IsTextOf octets rest limit result → IsInput limit (input_of result) untold
+untold_taken limit (Ok (Ok read)) rest octets text =
+    subst (λ (l : List ℕ). length l ≤ limit) text.0 text.1
+untold_taken limit (Ok (Err Failed)) rest octets text = tt
+untold_taken limit (Ok (Err Long)) rest octets text = tt
+untold_taken limit (Err out_of_memory) rest octets text = tt
+
 -- what is read is what was told to be left
 input_taken : (limit : ℕ) (result : TextResult) (left rest : Option (List ℕ)) (octets : List ℕ)
     → TakesOctets left rest octets
     → IsTextOf octets rest limit result → IsInput limit (input_of result) (told_by left)
-input_taken limit result None rest octets took text = tt
+input_taken limit result None rest octets took text = untold_taken limit result rest octets text
 input_taken limit result (Some all) None octets took text = absurd cc
 input_taken limit (Ok (Ok read)) (Some all) (Some more) octets took text =
     let whole : all ≡ octets = (let e : all ≡ octets ++ more = cc in e)
@@ -110,7 +119,8 @@ module _ (b m a : OutsideTold) (name : List ℕ) (limit : ℕ) where
           source_faults name b.sources m.sources a.sources s t
           → IsInput limit (input_of result) (text_of (b.sources name))
       text (inl nothing) =
-          subst (λ s. IsInput limit (input_of result) (text_of s)) (sym nothing.0) tt
+          subst (λ s. IsInput limit (input_of result) (text_of s)) (sym nothing.0)
+          (untold_taken limit result t.left octets reads.text)
       text (inr stood) = subst (λ s. IsInput limit (input_of result) (text_of s)) (sym stood.0)
           (input_taken limit result s.left t.left octets reads.took reads.text)
 

@@ -2,10 +2,8 @@
 use Rattle.std.proofs.Common.{◌≡◌, ◌⊎◌, ℕ, zero, suc, Bool, true, false, ◌||◌, min}
 use Rattle.std.proofs.Common.{List, [], ◌∷◌, ◌++◌, length, take}
 use Rattle.std.proofs.Common.{Option, Some, None, refl, sym, ◌∙◌, ap, subst, inl, inr}
-use Rattle.std.specs.Prelude.{IfSome}
 use Rattle.std.proofs.Math.Nat.{min-zero, suc-min-suc, zero-min}
 use Rattle.std.proofs.lemmas.List.{append-nil}
-use Rattle.std.proofs.Math.Seq.{take-append_seam}
 use Rattle.outside.specs.Octets.{Adds}
 use Rattle.outside.specs.Sink.{SinkTold}
 use Rattle.outside.specs.Names.Outside.{NameEntry, OutsideTold, Asks}
@@ -15,9 +13,9 @@ use Rattle.commands.specs.declared.io.status.Status.TheVariants.{Differs, Memory
 use Rattle.commands.specs.Io.Statuses.{is_outside, OnWhole}
 use Rattle.commands.specs.Io.OutsideUse.{is_among, SomeOf, AsksFront, Keeps, Rises, Uses}
 use Rattle.commands.specs.Io.OutsideUse.{source_faults, sink_faults, IsTextRead, IsWritten}
-use Rattle.commands.specs.Io.Saying.{Said, Duty, files_written, names_in}
+use Rattle.commands.specs.Io.Saying.{Said, Duty}
 use Rattle.commands.specs.Io.Runs.{output_name, taken_of, Took, EachFile, IsSaid, MatchesWords}
-use Rattle.commands.specs.Io.Runs.{AreOutputsThere, AsksOutputs}
+use Rattle.commands.specs.Io.Runs.{AreOutputsThere, FilesBehind}
 use Rattle.commands.specs.Io.Runs.{outputs_of, IsComplete, IsRun}
 use Rattle.commands.specs.Io.Inputs.{OpensInput}
 use Rattle.commands.proofs.OfIo.Leaving.{or-false, is_among-append, SomeOf-left, EachOf-parts}
@@ -44,15 +42,6 @@ OnWhole-map Peer f h = f h
 OnWhole-map Outside f h = tt
 OnWhole-map Memory f h = tt
 
-pub IfSome-each : {T : Type 0} (o : Option T) (P : T → Type 0) → ((x : T) → P x) → IfSome o P
-IfSome-each None P all = tt
-IfSome-each (Some x) P all = all x
-
-pub IfSome-map : {T : Type 0} (o : Option T) (P Q : T → Type 0) → ((x : T) → P x → Q x)
-    → IfSome o P → IfSome o Q
-IfSome-map None P Q f h = tt
-IfSome-map (Some x) P Q f h = f x h
-
 -- where nothing outside failed
 pub IsComplete-from : (status : Status) (before now : ℕ) (said : Said)
     → OnWhole status (said.status ≡ status)
@@ -67,12 +56,11 @@ IsComplete-from Outside before now said answered cause = λ none. absurd (none (
 IsComplete-from Memory before now said answered cause = λ none. inr refl
 
 pub complete_of : (duty : Duty) (before after : OutsideTold) (status : Status)
-    → IfSome duty.says (IsSaid status before.sinks after.sinks)
+    → IsSaid status before.sinks after.sinks duty.says
     → Uses duty.inputs (outputs_of duty) (is_outside status) before after
-    → IfSome duty.says (IsComplete before.faults after.faults status)
-complete_of duty before after status said uses = IfSome-map duty.says _ _
-    (λ words h.
-    IsComplete-from status before.faults after.faults words h.answered uses.counted.cause) said
+    → IsComplete before.faults after.faults status duty.says
+complete_of duty before after status said uses =
+    IsComplete-from status before.faults after.faults duty.says said.answered uses.counted.cause
 
 -- nothing more was taken
 pub Adds-none : (octets : Option (List ℕ)) → Adds octets octets []
@@ -138,12 +126,12 @@ module _ (status : Status) (cut : IsCut status) (before after : List ℕ → Nam
   each_file (file ∷ files) = (nothing_took status cut file.0 file.1, each_file files)
 
   -- nothing was said
-  pub nothing_said : (says : Option Said) → IfSome says (IsSaid status before after)
-  nothing_said says = IfSome-each says _ (λ said. record {
+  pub nothing_said : (said : Said) → IsSaid status before after said
+  nothing_said said = record {
     answered = cut_whole status cut _;
     output = nothing_took status cut output_name said.text;
     files = each_file said.files;
-  })
+  }
 
 -- words of a status with which nothing is called whole
 cut_words : (is_command : Bool) (status : Status) → IsCut status
@@ -178,10 +166,10 @@ module _ (duty : Duty) (b a : OutsideTold) where
   -- a run that ended with nothing said
   pub cut_run : (status : Status) → IsCut status → (duty.is_command ≡ false → status ≡ Outside)
       → ((name : List ℕ) → taken_of (a.sinks name) ≡ taken_of (b.sinks name))
+      → a.written_names ≡ b.written_names
       → Uses duty.inputs (outputs_of duty) (is_outside status) b a → IsRun duty b a status
-  cut_run status cut lost same uses =
-      let said : IfSome duty.says
-      (IsSaid status b.sinks a.sinks) =
+  cut_run status cut lost same unwritten uses =
+      let said : IsSaid status b.sinks a.sinks duty.says =
       nothing_said status cut b.sinks a.sinks same duty.says in
       record {
         words = cut_words duty.is_command status cut lost;
@@ -190,13 +178,18 @@ module _ (duty : Duty) (b a : OutsideTold) where
         uses = uses;
         opened = cut_whole status cut b.sinks a.sinks same status cut _;
         printed = cut_whole status cut b.sinks a.sinks same status cut _;
+        filed = inl (
+          0,
+          subst (λ names. Asks b.written_names names []) (sym unwritten)
+              (Asks-none b.written_names),
+        );
         complete = complete_of duty b a status said uses;
       }
 
 -- memory ran out before anything was opened
 pub IsRun-idle : (duty : Duty) (b : OutsideTold) → duty.is_command ≡ true → IsRun duty b b Memory
 IsRun-idle duty b command =
-    cut_run duty b b Memory tt (λ none. absurd cc) (λ name. refl)
+    cut_run duty b b Memory tt (λ none. absurd cc) (λ name. refl) refl
     (Uses-idle duty.inputs (outputs_of duty) b)
 
 -- an input isn't there, since something outside failed or memory ran out
@@ -206,7 +199,7 @@ pub IsRun-unread : (duty : Duty) (b a : OutsideTold) (name : List ℕ) (more : L
     → IsRun duty b a status
 IsRun-unread duty b a name more status cut command inputs opens =
     cut_run duty b a status cut (λ none. absurd cc)
-    (λ n. ap (λ (s : List ℕ → NameEntry SinkTold). taken_of (s n)) opens.sinks)
+    (λ n. ap (λ (s : List ℕ → NameEntry SinkTold). taken_of (s n)) opens.sinks) opens.written
     (subst (λ names. Uses names (outputs_of duty) (is_outside status) b a) (sym inputs)
     (subst (λ f. Uses (name ∷ more) (outputs_of duty) f b a) (or-right (is_outside status))
     (Uses-read (is_outside status) false (name ∷ []) more (outputs_of duty) b a a
@@ -273,32 +266,7 @@ Uses-wider inputs more outputs others failed b a uses = record {
   network = uses.network;
 }
 
--- what a run owes whose first input is read, and which then goes on with another duty: the same is
--- said, or nothing is told of it
-pub data Follows (duty : Duty) (name : List ℕ) (rest : Duty) : Type 0 where
-  same_said : duty.says ≡ rest.says → duty.inputs ≡ name ∷ rest.inputs
-      → duty.may_write ≡ rest.may_write → Follows duty name rest
-  nothing_told : (more others : List (List ℕ)) → duty.says ≡ None
-      → duty.inputs ≡ name ∷ (rest.inputs ++ more)
-      → duty.may_write ≡ files_written rest.says rest.may_write ++ others
-      → Follows duty name rest
-
--- what is asked for where nothing is told
-asked_untold : (says : Option Said) (names others : List (List ℕ))
-    (before after : Option (List (List ℕ))) → AsksOutputs says names before after
-    → AsksOutputs None (files_written says names ++ others) before after
-asked_untold None names others before after asked = (
-  min asked.0 (length names),
-  subst (λ (some : List (List ℕ)). Asks before after (output_name ∷ some))
-      (sym (take-append-min asked.0 names others)) asked.1,
-)
-asked_untold (Some said) names others before after asked = (
-  length (names_in said.files),
-  subst (λ (some : List (List ℕ)). Asks before after (output_name ∷ some))
-      (sym (take-append_seam (names_in said.files) others)) asked,
-)
-
-module _ (duty rest : Duty) (b m a : OutsideTold) (name : List ℕ) (status : Status) where
+module _ (rest : Duty) (b m a : OutsideTold) (name : List ℕ) (status : Status) where
   then_uses : OpensInput b m name false → IsRun rest m a status
       → Uses (name ∷ rest.inputs) (outputs_of rest) (is_outside status) b a
   then_uses opens run =
@@ -312,98 +280,34 @@ module _ (duty rest : Duty) (b m a : OutsideTold) (name : List ℕ) (status : St
       Asks-append b.read_names m.read_names a.read_names (name ∷ []) rest.inputs first then
 
   -- one input is read or refused, and then the rest
-  pub IsRun-then : duty.is_command ≡ true → rest.is_command ≡ true → Follows duty name rest
-      → OpensInput b m name false
-      → IsRun rest m a status → IsRun duty b a status
-  IsRun-then command rest_command follows opens run = here follows
+  pub IsRun-then : OpensInput b m name false → IsRun rest m a status
+      → IsRun (record rest { inputs = name ∷ rest.inputs }) b a status
+  IsRun-then opens run = record {
+    words = run.words;
+    said = said;
+    output =
+        subst (λ (s : List ℕ → NameEntry SinkTold). OnWhole status (AreOutputsThere rest.says s))
+        opens.sinks run.output;
+    uses = then_uses opens run;
+    opened = OnWhole-map status (λ then. Asks-then opens.asked then) run.opened;
+    printed =
+        subst (λ w. OnWhole status (Asks w a.written_names (outputs_of rest))) opens.written
+        run.printed;
+    filed = filed run.filed;
+    complete = complete_of (record rest { inputs = name ∷ rest.inputs }) b a status said
+        (then_uses opens run);
+  }
     where
-      words : MatchesWords duty.is_command status
-      words = subst (λ c. MatchesWords c status) (rest_command ∙ sym command) run.words
-
-      output : OnWhole status (AreOutputsThere rest.says b.sinks)
-      output =
-          subst (λ (s : List ℕ → NameEntry SinkTold). OnWhole status (AreOutputsThere rest.says s))
-          opens.sinks run.output
-
-      printed : OnWhole status
-          (AsksOutputs rest.says rest.may_write b.written_names a.written_names)
-      printed =
-          subst (λ w. OnWhole status (AsksOutputs rest.says rest.may_write w a.written_names))
-          opens.written run.printed
-
-      said : IfSome rest.says (IsSaid status b.sinks a.sinks)
-      said = subst (λ (s : List ℕ → NameEntry SinkTold). IfSome rest.says (IsSaid status s a.sinks))
+      said : IsSaid status b.sinks a.sinks rest.says
+      said = subst (λ (s : List ℕ → NameEntry SinkTold). IsSaid status s a.sinks rest.says)
           opens.sinks run.said
 
-      opened : OnWhole status
-          (IfSome rest.says (λ _. Asks b.read_names a.read_names (name ∷ rest.inputs)))
-      opened =
-          OnWhole-map status
-          (λ h. IfSome-map rest.says _ _ (λ words then. Asks-then opens.asked then) h)
-          run.opened
-
-      here : Follows duty name rest → IsRun duty b a status
-      here (same_said says inputs files) =
-          let outs : outputs_of duty ≡ outputs_of rest = cc in
-          let uses : Uses duty.inputs (outputs_of duty) (is_outside status) b a =
-          subst (λ (names : List (List ℕ)). Uses names (outputs_of duty) (is_outside status) b a)
-          (sym inputs)
-          (subst (λ (names : List (List ℕ)). Uses (name ∷ rest.inputs) names (is_outside status)
-          b a) (sym outs) (then_uses opens run)) in
-          let told : IfSome duty.says (IsSaid status b.sinks a.sinks) =
-          subst (λ (s : Option Said). IfSome s (IsSaid status b.sinks a.sinks)) (sym says) said in
-          record {
-            words = words;
-            said = told;
-            output =
-                subst (λ (s : Option Said). OnWhole status (AreOutputsThere s b.sinks)) (sym says)
-                output;
-            uses = uses;
-            opened =
-                subst (λ (s : Option Said). OnWhole status
-                (IfSome s (λ _. Asks b.read_names a.read_names duty.inputs))) (sym says)
-                (subst (λ names. OnWhole status
-                (IfSome rest.says (λ _. Asks b.read_names a.read_names names))) (sym inputs)
-                opened);
-            printed =
-                subst (λ (s : Option Said). OnWhole status
-                (AsksOutputs s duty.may_write b.written_names a.written_names)) (sym says)
-                (subst (λ (names : List (List ℕ)). OnWhole status
-                (AsksOutputs rest.says names b.written_names a.written_names)) (sym files)
-                printed);
-            complete = complete_of duty b a status told uses;
-          }
-      here (nothing_told more others says inputs files) =
-          let outs : outputs_of duty ≡ outputs_of rest ++ others =
-          ap (λ (s : Option Said). output_name ∷ files_written s duty.may_write) says
-          ∙ ap (λ (names : List (List ℕ)). output_name ∷ names) files in
-          let uses : Uses duty.inputs (outputs_of duty) (is_outside status) b a =
-          subst (λ (names : List (List ℕ)). Uses names (outputs_of duty) (is_outside status) b a)
-          (sym inputs)
-          (subst (λ (names : List (List ℕ)). Uses (name ∷ (rest.inputs ++ more)) names
-          (is_outside status) b a) (sym outs)
-          (Uses-wider (name ∷ rest.inputs) more (outputs_of rest) others (is_outside status) b a
-          (then_uses opens run))) in
-          let told : IfSome duty.says (IsSaid status b.sinks a.sinks) =
-          subst (λ (s : Option Said). IfSome s (IsSaid status b.sinks a.sinks)) (sym says) tt in
-          record {
-            words = words;
-            said = told;
-            output =
-                subst (λ (s : Option Said). OnWhole status (AreOutputsThere s b.sinks)) (sym says)
-                (OnWhole-map status (λ there. (there.0, tt)) output);
-            uses = uses;
-            opened =
-                subst (λ (s : Option Said). OnWhole status
-                (IfSome s (λ _. Asks b.read_names a.read_names duty.inputs))) (sym says)
-                (OnWhole-all status tt);
-            printed =
-                subst (λ (s : Option Said). OnWhole status
-                (AsksOutputs s duty.may_write b.written_names a.written_names)) (sym says)
-                (subst (λ (names : List (List ℕ)). OnWhole status
-                (AsksOutputs None names b.written_names a.written_names)) (sym files)
-                (OnWhole-map status
-                (asked_untold rest.says rest.may_write others b.written_names a.written_names)
-                printed));
-            complete = complete_of duty b a status told uses;
-          }
+      -- what was opened for writing before is as when the run began
+      filed : FilesBehind m a rest.says.text → FilesBehind b a rest.says.text
+      filed (inl few) =
+          inl (subst (λ names. AsksFront names a.written_names (output_name ∷ [])) opens.written
+          few)
+      filed (inr took) =
+          inr (subst (λ (s : List ℕ → NameEntry SinkTold).
+          Adds (taken_of (s output_name)) (taken_of (a.sinks output_name)) rest.says.text)
+          opens.sinks took)

@@ -6,7 +6,7 @@ use Rattle.clap.specs.Simple.{Shape, built, matches_of}
 use Rattle.clap.specs.Takes.{takes}
 use Rattle.clap.specs.Walk.{Held, Text, Walk, nothing_held, walk_from, walked}
 use Rattle.clap.proofs.OnLiterals.{clap_on_literals}
-use Rattle.commands.specs.Words.Words.{ClientTask, client_in, is_address, is_connect, is_file_name}
+use Rattle.commands.specs.Words.Words.{ClientTask, client_in, is_address, is_connect}
 use Rattle.commands.specs.Words.Matched.{client_app, played_matched}
 use Rattle.commands.proofs.OfWords.Tests.{both, chosen, not_none, some_is}
 use Rattle.commands.proofs.OfWords.PlainWords.{IsPlainWord, plain_name}
@@ -72,7 +72,7 @@ connected tables script option word task first second e =
     elim (chosen (is_connect option word) (Some (asked tables script word)) None task e) [
       | inl h ↦
           let k = both (bytes_eq option (codes "--connect")) (is_address word) h.0 in
-          let plain = plain_name word (both (is_file_name word) _ k.1).0 in
+          let plain = plain_name word k.1 in
           subst (λ (t : ClientTask). Plays tables script (option ∷ word ∷ []) t)
           (some_is (asked tables script word) task h.1)
           (subst (λ (v : Text). Plays tables script (v ∷ word ∷ []) (asked tables script word))

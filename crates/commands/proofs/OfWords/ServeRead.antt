@@ -53,7 +53,7 @@ spelled_plain : (option : ServeOption) → IsSpelled option → IsPlainWord (wor
 spelled_plain (limits n word) spelled =
     plain_number MOST_LIMIT word n (counted MOST_LIMIT word n spelled).number
 spelled_plain (journals word) spelled = plain_name word (both (is_file_name word) _ spelled).0
-spelled_plain (listens word) spelled = plain_name word (both (is_file_name word) _ spelled).0
+spelled_plain (listens word) spelled = plain_name word spelled
 
 flag_read : (option : ServeOption) (h : Held) (to : Walk) (words : List Text) → settles h
     → IsRead shape (at_option (id_of option) 2 (flagged option h)) to words

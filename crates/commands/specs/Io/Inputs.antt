@@ -33,7 +33,9 @@ value_as meant (Err end) = Err end
 
 -- the whole text is read, and it is too long exactly where it has more octets than the limit
 abbrev pub IsInput : ℕ → Result (Vec ℕ Global) InputEnd → Text → Type 0
-IsInput limit result untold = Unit {0}
+IsInput limit (Ok text) untold = length text.items ≤ limit
+IsInput limit (Err (Refused (BadLine line))) untold = ⊥
+IsInput limit (Err end) untold = Unit {0}
 IsInput limit result missing = result ≡ Err Outside
 IsInput limit (Ok text) (told octets) = (octets ≡ text.items) × (length octets ≤ limit)
 IsInput limit (Err (Refused Long)) (told octets) = limit < length octets

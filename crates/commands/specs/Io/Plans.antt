@@ -1,6 +1,6 @@
 -- What a command says once it has read its inputs, one after another, and what a run of it owes.
-use Rattle.std.specs.Prelude.{◌≡◌, ℕ, ◌≤◌, true, if◌then◌else◌, nat_lt, length, bytes_eq}
-use Rattle.std.specs.Prelude.{List, [], ◌∷◌, None, Result, Ok, Err, Vec, IfOk}
+use Rattle.std.specs.Prelude.{◌≡◌, ℕ, ◌≤◌, Bool, true, false, if◌then◌else◌, nat_lt, length}
+use Rattle.std.specs.Prelude.{bytes_eq, List, [], ◌∷◌, Result, Ok, Err, Vec, IfOk}
 use Rattle.std.specs.declared.alloc.Global.{Global}
 use Rattle.outside.specs.Names.Outside.{OutsideTold}
 use Rattle.commands.specs.declared.io.status.Status.{Status}
@@ -23,10 +23,6 @@ pub record Asked : Type 0 where
   pub called : List ℕ
   -- the octets that it may have
   pub limit : ℕ
-  -- where nothing is told of it, the inputs that may be opened behind it, in order
-  pub others : List (List ℕ)
-  -- and the files that may be written behind standard output
-  pub files : List (List ℕ)
 
 -- what a command says, or the input that it reads first, and then, by its octets, the rest
 pub data Plan : Type 0 where
@@ -59,38 +55,54 @@ reads_value asked spelled onward =
 abbrev pub texts_behind : (List ℕ → Text) → List ℕ → List ℕ → Text
 texts_behind texts file name = if bytes_eq name file then emptied (texts file) else texts name
 
--- what is owed behind an input, by what is told of it: nothing is said where nothing is told, one
--- that isn't there is a fault outside, and one with more octets than it may have is refused
-abbrev pub duty_told : Asked → (List ℕ → Duty) → Text → Duty
-duty_told asked next untold = record {
-  is_command = true;
-  says = None;
-  inputs = asked.others;
-  may_write = asked.files;
-}
-duty_told asked next missing = duty_to_say true (prints Outside [])
-duty_told asked next (told octets) =
-    if nat_lt asked.limit (length octets) then duty_to_say true (refused_said asked.called Long)
-    else next octets
-
 -- a duty with one more input before the others
 abbrev pub opening : List ℕ → Duty → Duty
 opening name duty = record duty { inputs = name ∷ duty.inputs }
 
--- what a run of a plan owes, by what is told under each name
-abbrev pub duty_by : Plan → (List ℕ → Text) → Duty
-duty_by (says said) texts = duty_to_say true said
-duty_by (reads asked next) texts =
-    opening asked.file
-    (duty_told asked (λ octets. duty_by (next octets) (texts_behind texts asked.file))
-    (texts asked.file))
+-- what an input is found to be of which this is told: that; where nothing is told, that it isn't
+-- there, or any octets
+abbrev pub IsFound : Text → Text → Type 0
+IsFound untold untold = ⊥
+IsFound untold found = Unit {0}
+IsFound missing found = found ≡ missing
+IsFound (told octets) found = found ≡ told octets
+
+-- what is owed behind octets, which may be too many
+abbrev pub OwesWithin : Bool → Duty → (Duty → Type 0) → Duty → Type 0
+OwesWithin true refused next duty = duty ≡ refused
+OwesWithin false refused next duty = next duty
+
+-- what is owed behind an input that was found to be this: one that isn't there is a fault outside,
+-- and one with more octets than it may have is refused
+abbrev pub OwesFound : Asked → (List ℕ → Duty → Type 0) → Text → Duty → Type 0
+OwesFound asked next untold duty = ⊥
+OwesFound asked next missing duty = duty ≡ duty_to_say true (prints Outside [])
+OwesFound asked next (told octets) duty =
+    OwesWithin (nat_lt asked.limit (length octets))
+    (duty_to_say true (refused_said asked.called Long)) (next octets) duty
+
+-- what a run of a plan owes, by what is told under each name: each input that it reads is found to
+-- be something, and the rest is owed by that
+abbrev pub Owes : Plan → (List ℕ → Text) → Duty → Type 0
+Owes (says said) texts duty = duty ≡ duty_to_say true said
+Owes (reads asked next) texts duty = (found : Text) × IsFound (texts asked.file) found
+    × ((rest : Duty)
+    × OwesFound asked (λ octets. Owes (next octets) (texts_behind texts asked.file)) found rest
+    × (duty ≡ opening asked.file rest))
+
+-- what a run of a plan leaves outside, and the status that it answers: what it owes by what is told
+-- of its inputs, and where nothing is told, by octets that they may have had
+abbrev pub RunsPlan : Plan → OutsideTold → OutsideTold → Status → Type 0
+RunsPlan (says said) before after status = IsRun (duty_to_say true said) before after status
+RunsPlan (reads asked next) before after status =
+    (duty : Duty) × Owes (reads asked next) (texts_of before) duty × IsRun duty before after status
 
 -- what a command comes to whose input was read to this: it goes on by the value, or it ends without
 -- one
 abbrev pub EndsPlan : {V : Type 0} → List ℕ → (V → Plan) → Result V InputEnd → OutsideTold
     → OutsideTold → Status → Type 0
 EndsPlan called onward (Ok value) before after status =
-    IsRun (duty_by (onward value) (texts_of before)) before after status
+    RunsPlan (onward value) before after status
 EndsPlan called onward (Err end) before after status = EndsUnread called end before after status
 
 -- the value that octets spell, or their first bad line, or want of memory alone

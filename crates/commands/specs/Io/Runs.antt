@@ -1,6 +1,6 @@
 -- What a run leaves outside, by its status.
 use Rattle.std.specs.Prelude.{◌≡◌, ◌≢◌, ◌⊎◌, ℕ, Bool, true, false, List, [], ◌∷◌, take}
-use Rattle.std.specs.Prelude.{Option, Some, None, IfSome, codes}
+use Rattle.std.specs.Prelude.{Option, None, codes}
 use Rattle.outside.specs.Octets.{Adds}
 use Rattle.outside.specs.Sink.{SinkTold, AppendsAll, AppendsPart}
 use Rattle.outside.specs.Names.Outside.{NameEntry, untold, missing, lent, there, OutsideTold, Asks}
@@ -11,8 +11,8 @@ use Rattle.commands.specs.declared.io.input.InputEnd.{InputEnd}
 use Rattle.commands.specs.declared.io.input.InputEnd.TheVariants.{Refused}
 use Rattle.commands.specs.declared.io.input.InputEnd.TheVariants as ends
 use Rattle.commands.specs.Io.Statuses.{is_outside, OnWhole}
-use Rattle.commands.specs.Io.OutsideUse.{Uses, Rises}
-use Rattle.commands.specs.Io.Saying.{Said, Duty, names_in, files_written, prints, refusal_text}
+use Rattle.commands.specs.Io.OutsideUse.{Uses, Rises, AsksFront}
+use Rattle.commands.specs.Io.Saying.{Said, Duty, names_in, prints, refusal_text}
 use Rattle.commands.specs.Io.Saying.{duty_to_say}
 
 -- the name of standard output among the sinks
@@ -65,25 +65,19 @@ IsSinkThere lent = ⊥
 IsSinkThere (there sink) = Unit {0}
 
 -- and so does one under the name of each file that is said
-abbrev pub AreFilesThere : Option Said → (List ℕ → NameEntry SinkTold) → Type 0
-AreFilesThere None before = Unit {0}
-AreFilesThere (Some said) before = EachFile said.files (λ name octets. IsSinkThere (before name))
-
-abbrev pub AreOutputsThere : Option Said → (List ℕ → NameEntry SinkTold) → Type 0
-AreOutputsThere says before = IsSinkThere (before output_name) × AreFilesThere says before
+abbrev pub AreOutputsThere : Said → (List ℕ → NameEntry SinkTold) → Type 0
+AreOutputsThere said before = IsSinkThere (before output_name)
+    × EachFile said.files (λ name octets. IsSinkThere (before name))
 
 -- what a run may open for writing: standard output, and then the files that are said
 abbrev pub outputs_of : Duty → List (List ℕ)
-outputs_of duty = output_name ∷ files_written duty.says duty.may_write
+outputs_of duty = output_name ∷ names_in duty.says.files
 
--- all of them were opened; where nothing is told, standard output, and as many of the files as it
--- came to
-abbrev pub AsksOutputs : Option Said → List (List ℕ) → Option (List (List ℕ))
-    → Option (List (List ℕ)) → Type 0
-AsksOutputs None names before after =
-    (count : ℕ) × Asks before after (output_name ∷ take count names)
-AsksOutputs (Some said) names before after =
-    Asks before after (output_name ∷ names_in said.files)
+-- no file was opened for writing, or standard output has taken all of a text
+abbrev pub FilesBehind : OutsideTold → OutsideTold → List ℕ → Type 0
+FilesBehind before after text =
+    AsksFront before.written_names after.written_names (output_name ∷ [])
+    ⊎ Adds (taken_of (before.sinks output_name)) (taken_of (after.sinks output_name)) text
 
 -- where nothing outside failed, the status is the one said, but for want of memory
 abbrev pub IsComplete : ℕ → ℕ → Status → Said → Type 0
@@ -94,20 +88,20 @@ IsComplete before now status said =
 pub record IsRun (duty : Duty) (before after : OutsideTold) (status : Status) : Type 0 where
   -- words out of the grammar are answered 2, and no others are
   pub words : MatchesWords duty.is_command status
-  -- where the inputs are told, the status and what is printed are those said
-  pub said : IfSome duty.says (IsSaid status before.sinks after.sinks)
+  -- the status and what is printed are those said
+  pub said : IsSaid status before.sinks after.sinks duty.says
   -- nothing is called whole where standard output or a file that is said couldn't be opened
   pub output : OnWhole status (AreOutputsThere duty.says before.sinks)
   -- the inputs, standard output and the files that are said alone are opened, in order, and each is
   -- closed again; a fault outside has its cause and its reason
   pub uses : Uses duty.inputs (outputs_of duty) (is_outside status) before after
   -- where the output is whole, all of the inputs were opened, and all outputs
-  pub opened : OnWhole status
-      (IfSome duty.says (λ _. Asks before.read_names after.read_names duty.inputs))
-  pub printed : OnWhole status
-      (AsksOutputs duty.says duty.may_write before.written_names after.written_names)
+  pub opened : OnWhole status (Asks before.read_names after.read_names duty.inputs)
+  pub printed : OnWhole status (Asks before.written_names after.written_names (outputs_of duty))
+  -- a file is opened only where all that is said was printed before
+  pub filed : FilesBehind before after duty.says.text
   -- where nothing outside failed, all is done, but for want of memory
-  pub complete : IfSome duty.says (IsComplete before.faults after.faults status)
+  pub complete : IsComplete before.faults after.faults status duty.says
 
 -- what a command does to standard output while that is open: the status and what is taken are those
 -- said, and no write comes after one that failed

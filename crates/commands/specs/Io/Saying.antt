@@ -63,21 +63,13 @@ emptied (told octets) = told []
 abbrev pub names_in : List (List ℕ × List ℕ) → List (List ℕ)
 names_in files = map (λ file. file.0) files
 
--- what a run owes: whether its words are a command, what is said where the inputs are told, the
--- names that are opened for reading, in order, and, where nothing is told, the files that may be
--- written behind standard output, in order
+-- what a run owes: whether its words are a command, what is said, and the names that are opened for
+-- reading, in order
 pub record Duty : Type 0 where
   pub is_command : Bool
-  pub says : Option Said
+  pub says : Said
   pub inputs : List (List ℕ)
-  pub may_write : List (List ℕ)
-
--- the files that are written where this is said, or may be where nothing is told
-abbrev pub files_written : Option Said → List (List ℕ) → List (List ℕ)
-files_written None names = names
-files_written (Some said) names = names_in said.files
 
 -- the duty to say this, with no input opened
 abbrev pub duty_to_say : Bool → Said → Duty
-duty_to_say is_command said =
-    record { is_command = is_command; says = Some said; inputs = []; may_write = [] }
+duty_to_say is_command said = record { is_command = is_command; says = said; inputs = [] }

@@ -231,9 +231,9 @@ question_of tables journal (peer ∷ ordinal ∷ given ∷ sent ∷ []) =
     question_in tables journal peer ordinal given sent
 question_of tables journal words = None
 
--- an address: as the name of a file, but not `-`
+-- an address: as the name of a file
 abbrev pub is_address : List ℕ → Bool
-is_address word = is_journal_name word
+is_address word = is_file_name word
 
 -- what options of a server give
 pub record ServeOptions : Type 0 where

@@ -5,7 +5,7 @@ ghost use Rattle.commands.specs.Io.Plans.{IsSpelled, ReadsValue};
 ghost use Rattle.commands.specs.Files.Tables.{tables_in};
 ghost use Rattle.commands.specs.Files.Tables as own;
 
-use crate::io::{InputEnd, TEXT_LIMIT, read_input, value_or_end};
+use crate::io::{InputEnd, Refusal, RefusedLine, TEXT_LIMIT, note_line_and_why, read_input};
 use bilateral::{Centre, TableFault, read_centre};
 use outside::names::Outside;
 use std::alloc::{AllocError, Global};
@@ -27,14 +27,32 @@ pub fn read_lines(alloc: Global, text: &[u8]) -> Result<Result<Centre, u64>, All
     Ok(centre_or_line(read_centre(alloc, text)?))
 }
 
-// The centre of a text of tables, or why there is none.
-fn centre_from(alloc: Global, text: &[u8]) -> Result<Centre, InputEnd>
+// The centre of a text of tables, or why there is none. An operator is told of its first bad line.
+fn centre_from<O: Outside>(alloc: Global, outside: &O, text: &[u8]) -> Result<Centre, InputEnd>
     ensures { IsSpelled result (tables_in text.now) }
 {
-    value_or_end(read_lines(alloc, text))
+    match read_centre(alloc, text) {
+        Ok(Ok(centre)) => Ok(centre),
+        Ok(Err(fault)) => {
+            note_fault(alloc, outside, text, fault);
+            Err(InputEnd::Refused(Refusal::BadLine(fault.line)))
+        }
+        Err(AllocError) => Err(InputEnd::Memory),
+    }
 }
 
-/// Reads the tables under a name.
+// Lets an operator know of the first bad line of a text of tables.
+fn note_fault<O: Outside>(alloc: Global, outside: &O, text: &[u8], fault: TableFault) {
+    let line = RefusedLine {
+        input: "tables",
+        text,
+        number: fault.line,
+    };
+    note_line_and_why(alloc, outside, line, fault.why);
+}
+
+/// Reads the tables under a name. An operator is told of their first bad line, and why it can't be
+/// taken.
 pub fn read_tables<O: Outside>(
     alloc: Global,
     outside: &mut O,
@@ -44,7 +62,7 @@ pub fn read_tables<O: Outside>(
         (O.told outside.new) }
 {
     match read_input(alloc, outside, name, TEXT_LIMIT) {
-        Ok(text) => centre_from(alloc, &text),
+        Ok(text) => centre_from(alloc, outside, &text),
         Err(end) => Err(end),
     }
 }

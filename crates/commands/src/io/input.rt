@@ -4,6 +4,7 @@ ghost use Rattle.commands.specs.Io.OutsideUse.{IsLimit};
 ghost use Rattle.commands.specs.Io.Inputs.{input_of, ReadsInput};
 ghost use Rattle.commands.specs.Io.Inputs as own;
 
+use crate::io::notes::note_long;
 use outside::names::Outside;
 use outside::{TextEnd, read_text};
 use std::alloc::{AllocError, Global};
@@ -64,7 +65,7 @@ pub fn value_or_end<T>(read: Result<Result<T, u64>, AllocError>) -> Result<T, In
 }
 
 /// Opens the source of this name, reads its whole text, which may have so many octets, and closes
-/// it.
+/// it. An operator is told of a text that has more.
 pub fn read_input<O: Outside>(
     alloc: Global,
     outside: &mut O,
@@ -79,5 +80,7 @@ pub fn read_input<O: Outside>(
     };
     let read = read_text(alloc, &mut source, limit);
     outside.close_in(source);
-    input_from(read)
+    let input = input_from(read);
+    note_long(alloc, outside, name, limit, &input);
+    input
 }

@@ -127,11 +127,11 @@ fn is_client(verb: &str, tables: &str, script: &str) -> bool
     verb == "client" && is_name(tables) && is_name(script)
 }
 
-// Whether a word is an address.
+// Whether a word may stand as an address: as the name of a file may.
 fn is_address(word: &str) -> bool
     ensures { result ≡ own.is_address word.now }
 {
-    is_journal_name(word)
+    is_name(word)
 }
 
 // Whether two words are the address to connect to.

@@ -12,13 +12,14 @@ use Rattle.centre_client.specs.declared.end.ClientEnd.TheVariants as ends
 use Rattle.centre_client.specs.declared.service.run_end.RunEnd.{RunEnd}
 use Rattle.centre_client.specs.declared.service.run_end.RunEnd.TheVariants as runs
 use Rattle.centre_client.specs.Service.Runs.{PlaysText}
+use Rattle.centre_client.specs.Service.Terminals.{link_terminal}
 use Rattle.commands.specs.declared.io.status.Status.{Status}
 use Rattle.commands.specs.declared.io.status.Status.TheVariants.{Done, Usage, Outside, Memory, Peer}
 use Rattle.commands.specs.Io.OutsideUse.{Rises}
 use Rattle.commands.specs.Io.Saying.{prints}
 use Rattle.commands.specs.Io.Runs.{TellsSaid}
 use Rattle.commands.proofs.OfIo.Leaving.{Rises-after, Rises-before, Rises-positive}
-use Rattle.tase_tool.specs.Client.Ending.{TellsClientEnd, TellsPeer, TellsMade, TellsRunEnd}
+use Rattle.tase_tool.specs.Client.Ending.{TellsClientEnd, TellsPeer, TellsRunEnd}
 use Rattle.tase_tool.specs.Client.Playing.{PlaysOpened}
 use Rattle.tase_tool.proofs.OfClient.Faults.{counted_grows, faulty_rises, link_heard}
 
@@ -29,26 +30,19 @@ peer_failed : (text : List ℕ) (before after : SinkTold) (status : Status)
 peer_failed text before after status tells is =
     (subst (TellsSaid (prints Peer text) before after) is tells.0).1.faults
 
-made_failed : (text : List ℕ) (before after : SinkTold) (status : Status)
-    → TellsMade text before after status → status ≡ Outside
-    → after.faults ≡ counted true before.faults
-made_failed text before after status (inl tells) is = peer_failed text before after status tells is
-made_failed text before after status (inr lacks) is =
-    absurd (let e : Memory ≡ Outside = sym lacks.0 ∙ is in cc)
-
 client_failed : (end : ClientEnd) (before after : SinkTold) (status : Status)
     → TellsClientEnd end before after status → status ≡ Outside
     → after.faults ≡ counted true before.faults
 client_failed ends.Finished before after status tells is = absurd cc
 client_failed ends.PeerEnd before after status tells is = peer_failed _ before after status tells is
 client_failed (ends.Refused fault) before after status tells is =
-    made_failed _ before after status tells is
+    peer_failed _ before after status tells is
 client_failed ends.Rejected before after status tells is =
     peer_failed _ before after status tells is
 client_failed (ends.Checkback want got) before after status tells is =
-    made_failed _ before after status tells is
+    peer_failed _ before after status tells is
 client_failed (ends.Stray invoke) before after status tells is =
-    made_failed _ before after status tells is
+    peer_failed _ before after status tells is
 client_failed ends.Memory before after status tells is = absurd cc
 
 -- ---- the names that it keeps
@@ -60,22 +54,17 @@ peer_named text before after status tells = elim tells.1 [
   | inr failed ↦ (subst (TellsSaid (prints Peer text) before after) failed tells.0).1.name
 ]
 
-made_named : (text : List ℕ) (before after : SinkTold) (status : Status)
-    → TellsMade text before after status → after.name ≡ before.name
-made_named text before after status (inl tells) = peer_named text before after status tells
-made_named text before after status (inr lacks) = ap (λ (k : SinkTold). k.name) lacks.1
-
 client_named : (end : ClientEnd) (before after : SinkTold) (status : Status)
     → TellsClientEnd end before after status → after.name ≡ before.name
 client_named ends.Finished before after status tells = ap (λ (k : SinkTold). k.name) tells.1
 client_named ends.PeerEnd before after status tells = peer_named _ before after status tells
 client_named (ends.Refused fault) before after status tells =
-    made_named _ before after status tells
+    peer_named _ before after status tells
 client_named ends.Rejected before after status tells = peer_named _ before after status tells
 client_named (ends.Checkback want got) before after status tells =
-    made_named _ before after status tells
+    peer_named _ before after status tells
 client_named (ends.Stray invoke) before after status tells =
-    made_named _ before after status tells
+    peer_named _ before after status tells
 client_named ends.Memory before after status tells = ap (λ (k : SinkTold). k.name) tells.1
 
 pub run_named : (end : RunEnd) (before after : SinkTold) (status : Status)
@@ -97,7 +86,8 @@ module _ (rows : CentreRows) (text : List ℕ) (link : LinkTold) (sink : SinkTol
   faulty first now counts = Rises-positive first now (0, counts)
 
   by_end : (end : RunEnd) (first : LinkAnswers)
-      → PlaysText rows text link played.gone first sink played.shown end
+      → PlaysText rows text (link_terminal link sink) (link_terminal played.gone played.shown) first
+      end
       → TellsRunEnd end played.shown played.told status → status ≡ Outside → IsFailed
   by_end (runs.Ended end) first plays tells is =
       inr (faulty played.shown.faults played.told.faults
@@ -143,26 +133,19 @@ peer_unasked text before after status tells is = elim tells.1 [
   | inr failed ↦ absurd (let e : Outside ≡ Usage = sym failed ∙ is in cc)
 ]
 
-made_unasked : (text : List ℕ) (before after : SinkTold) (status : Status)
-    → TellsMade text before after status → status ≡ Usage → ⊥
-made_unasked text before after status (inl tells) is =
-    peer_unasked text before after status tells is
-made_unasked text before after status (inr lacks) is =
-    absurd (let e : Memory ≡ Usage = sym lacks.0 ∙ is in cc)
-
 client_unasked : (end : ClientEnd) (before after : SinkTold) (status : Status)
     → TellsClientEnd end before after status → status ≡ Usage → ⊥
 client_unasked ends.Finished before after status tells is = absurd cc
 client_unasked ends.PeerEnd before after status tells is =
     peer_unasked _ before after status tells is
 client_unasked (ends.Refused fault) before after status tells is =
-    made_unasked _ before after status tells is
+    peer_unasked _ before after status tells is
 client_unasked ends.Rejected before after status tells is =
     peer_unasked _ before after status tells is
 client_unasked (ends.Checkback want got) before after status tells is =
-    made_unasked _ before after status tells is
+    peer_unasked _ before after status tells is
 client_unasked (ends.Stray invoke) before after status tells is =
-    made_unasked _ before after status tells is
+    peer_unasked _ before after status tells is
 client_unasked ends.Memory before after status tells is = absurd cc
 
 pub run_unasked : (end : RunEnd) (before after : SinkTold) (status : Status)
@@ -181,20 +164,14 @@ peer_undone {A} text before after tells = elim tells.1 [
   | inr failed ↦ absurd (let e : Done ≡ Outside = failed in cc)
 ]
 
-made_undone : {A : Type 0} (text : List ℕ) (before after : SinkTold)
-    → TellsMade text before after Done → A
-made_undone {A} text before after (inl tells) = peer_undone text before after tells
-made_undone {A} text before after (inr lacks) =
-    absurd (let e : Done ≡ Memory = lacks.0 in cc)
-
 client_done : (end : ClientEnd) (before after : SinkTold) → TellsClientEnd end before after Done
     → end ≡ ends.Finished
 client_done ends.Finished before after tells = refl
 client_done ends.PeerEnd before after tells = peer_undone _ before after tells
-client_done (ends.Refused fault) before after tells = made_undone _ before after tells
+client_done (ends.Refused fault) before after tells = peer_undone _ before after tells
 client_done ends.Rejected before after tells = peer_undone _ before after tells
-client_done (ends.Checkback want got) before after tells = made_undone _ before after tells
-client_done (ends.Stray invoke) before after tells = made_undone _ before after tells
+client_done (ends.Checkback want got) before after tells = peer_undone _ before after tells
+client_done (ends.Stray invoke) before after tells = peer_undone _ before after tells
 client_done ends.Memory before after tells =
     absurd (let e : Done ≡ Memory = tells.0 in cc)
 

@@ -15,6 +15,7 @@ use Rattle.centre_client.specs.declared.end.ClientEnd.TheVariants as ends
 use Rattle.centre_client.specs.declared.service.run_end.RunEnd.{RunEnd}
 use Rattle.centre_client.specs.declared.service.run_end.RunEnd.TheVariants as runs
 use Rattle.centre_client.specs.Service.Runs.{PlaysText}
+use Rattle.centre_client.specs.Service.Terminals.{link_terminal}
 use Rattle.commands.specs.declared.io.status.Status.{Status}
 use Rattle.commands.specs.declared.io.status.Status.TheVariants as statuses
 use Rattle.commands.specs.declared.io.input.TheConstants.{TEXT_LIMIT}
@@ -31,7 +32,7 @@ use Rattle.commands.proofs.OfIo.Leaving.{CleanAt-after}
 use Rattle.commands.specs.Words.Words.{ClientTask}
 use Rattle.commands.specs.Files.Tables.{tables_in}
 use Rattle.tase_tool.specs.Client.Opening.{OpensEach}
-use Rattle.tase_tool.specs.Client.Ending.{TellsClientEnd, TellsPeer, TellsMade, TellsRunEnd}
+use Rattle.tase_tool.specs.Client.Ending.{TellsClientEnd, TellsPeer, TellsRunEnd}
 use Rattle.tase_tool.specs.Client.Playing.{PlaysOpened, PlaysAtNode, PlaysScript, GoesBehindScript}
 use Rattle.tase_tool.specs.Client.Playing.{GoesBehindTables, link_faults, HasCleanParts}
 use Rattle.tase_tool.proofs.OfClient.Faults.{link_heard}
@@ -106,14 +107,6 @@ peer_spared text before after status tells other = elim tells.1 [
   | inr failed ↦ absurd (other failed)
 ]
 
-made_spared : (text : List ℕ) (before after : SinkTold) (status : Status)
-    → TellsMade text before after status → status ≢ statuses.Outside
-    → after.faults ≡ before.faults
-made_spared text before after status (inl tells) other =
-    peer_spared text before after status tells other
-made_spared text before after status (inr lacks) other =
-    ap (λ (k : SinkTold). k.faults) lacks.1
-
 client_spared : (end : ClientEnd) (before after : SinkTold) (status : Status)
     → TellsClientEnd end before after status → status ≢ statuses.Outside
     → after.faults ≡ before.faults
@@ -122,13 +115,13 @@ client_spared ends.Finished before after status tells other =
 client_spared ends.PeerEnd before after status tells other =
     peer_spared _ before after status tells other
 client_spared (ends.Refused fault) before after status tells other =
-    made_spared _ before after status tells other
+    peer_spared _ before after status tells other
 client_spared ends.Rejected before after status tells other =
     peer_spared _ before after status tells other
 client_spared (ends.Checkback want got) before after status tells other =
-    made_spared _ before after status tells other
+    peer_spared _ before after status tells other
 client_spared (ends.Stray invoke) before after status tells other =
-    made_spared _ before after status tells other
+    peer_spared _ before after status tells other
 client_spared ends.Memory before after status tells other =
     ap (λ (k : SinkTold). k.faults) tells.1
 
@@ -157,7 +150,8 @@ module _ (rows : CentreRows) (text : List ℕ) (link : LinkTold) (sink : SinkTol
     (played : PlaysOpened rows text link sink o a status) (other : status ≢ statuses.Outside)
   where
     by_end : (end : RunEnd) (first : LinkAnswers)
-        → PlaysText rows text link played.gone first sink played.shown end
+        → PlaysText rows text (link_terminal link sink) (link_terminal played.gone played.shown)
+        first end
         → TellsRunEnd end played.shown played.told status
         → (played.gone.faults ≡ link.faults) × (played.told.faults ≡ sink.faults)
     by_end (runs.Ended end) first plays tells = (

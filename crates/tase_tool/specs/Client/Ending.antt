@@ -37,16 +37,11 @@ checkback_line want got = named_line (codes "checkback") (number_words want got)
 abbrev pub stray_invoke_line : ℕ → List ℕ
 stray_invoke_line invoke = codes "stray " ++ decimal invoke ++ 10 ∷ []
 
--- a line on how a client ended by what its peer gave, whether memory is left or not
+-- a line on how a client ended by what its peer gave; it takes no memory
 abbrev pub TellsPeer : List ℕ → SinkTold → SinkTold → Status → Type 0
 TellsPeer text before after status =
     TellsSaid (prints statuses.Peer text) before after status
     × ((status ≡ statuses.Peer) ⊎ (status ≡ statuses.Outside))
-
--- the same of a line that is made in memory first; where that is wanting nothing is told
-abbrev pub TellsMade : List ℕ → SinkTold → SinkTold → Status → Type 0
-TellsMade text before after status = TellsPeer text before after status
-    ⊎ ((status ≡ statuses.Memory) × (after ≡ before))
 
 -- nothing is told where a client has played its script to its end, nor where memory ran out
 abbrev pub TellsClientEnd : ClientEnd → SinkTold → SinkTold → Status → Type 0
@@ -54,13 +49,13 @@ TellsClientEnd ends.Finished before after status = (status ≡ statuses.Done) ×
 TellsClientEnd ends.PeerEnd before after status =
     TellsPeer (codes "peer end" ++ 10 ∷ []) before after status
 TellsClientEnd (ends.Refused fault) before after status =
-    TellsMade (refused_line fault) before after status
+    TellsPeer (refused_line fault) before after status
 TellsClientEnd ends.Rejected before after status =
     TellsPeer (codes "peer rejected" ++ 10 ∷ []) before after status
 TellsClientEnd (ends.Checkback want got) before after status =
-    TellsMade (checkback_line want got) before after status
+    TellsPeer (checkback_line want got) before after status
 TellsClientEnd (ends.Stray invoke) before after status =
-    TellsMade (stray_invoke_line invoke) before after status
+    TellsPeer (stray_invoke_line invoke) before after status
 TellsClientEnd ends.Memory before after status = (status ≡ statuses.Memory) × (after ≡ before)
 
 -- nor where its link or its sink has failed

@@ -14,6 +14,7 @@ use Rattle.centre_client.specs.declared.end.ClientEnd.TheVariants as ends
 use Rattle.centre_client.specs.declared.service.run_end.RunEnd.{RunEnd}
 use Rattle.centre_client.specs.declared.service.run_end.RunEnd.TheVariants as runs
 use Rattle.centre_client.specs.Service.Runs.{PlaysText}
+use Rattle.centre_client.specs.Service.Terminals.{link_terminal}
 use Rattle.commands.specs.declared.io.status.Status.{Status}
 use Rattle.commands.specs.declared.io.status.Status.TheVariants as statuses
 use Rattle.commands.specs.declared.io.input.TheConstants.{TEXT_LIMIT}
@@ -30,15 +31,16 @@ use Rattle.commands.specs.Files.Tables.{tables_in}
 use Rattle.tase_tool.specs.Client.Opening.{OpensEach, OpensBoth, LeavesLink}
 use Rattle.tase_tool.specs.Client.Ending.{TellsRunEnd}
 
--- a client plays the script that a text spells over a link and standard output; the link is closed,
--- and behind what the client showed is told how it ended
+-- a client plays the script that a text spells over a link and standard output, and writes no
+-- device that is to be selected before but behind its checkback; the link is closed, and behind
+-- what the client showed is told how it ended
 pub record PlaysOpened (rows : CentreRows) (text : List ℕ) (link : LinkTold) (sink : SinkTold)
     (before after : OutsideTold) (status : Status) : Type 0 where
   pub gone : LinkTold
   pub shown : SinkTold
   pub end : RunEnd
   pub plays : (first : LinkAnswers) → HasHeard link first
-      → PlaysText rows text link gone first sink shown end
+      → PlaysText rows text (link_terminal link sink) (link_terminal gone shown) first end
   pub mid : OutsideTold
   pub leaves : LeavesLink before mid gone
   pub told : SinkTold

@@ -10,9 +10,13 @@ ghost use Rattle.tase_tool.specs.Client.Playing.{PlaysScript, MeetsNode, PlaysOp
 use crate::client::ending::tell_run_end;
 use crate::client::opening::{close_link, open_both};
 use bilateral::Centre;
-use centre_client::service::{Talk, run_client};
+use centre_client::ScriptFault;
+use centre_client::service::{LinkTerminal, Talk, run_client};
 use commands::files::read_tables;
-use commands::io::{InputEnd, Refusal, Status, TEXT_LIMIT, end_unread, read_input, refuse};
+use commands::io::{
+    InputEnd, Refusal, RefusedLine, Status, TEXT_LIMIT, end_unread, note_line_and_why, read_input,
+    refuse,
+};
 use commands::words::ClientWords;
 use outside::names::Outside;
 use std::alloc::{AllocError, Global};
@@ -39,6 +43,16 @@ pub fn run_client_command<R: Wait, O: Outside>(
     let read = read_tables(alloc, outside, words.tables);
     let command = ClientRun { rt, alloc, words };
     command.play_read(outside, read)
+}
+
+/// Lets an operator know of the first bad line of a script.
+fn note_fault<O: Outside>(alloc: Global, outside: &O, text: &[u8], fault: ScriptFault) {
+    let line = RefusedLine {
+        input: "script",
+        text,
+        number: fault.line,
+    };
+    note_line_and_why(alloc, outside, line, fault.why);
 }
 
 /// A client's command.
@@ -104,7 +118,10 @@ impl<'a, R: Wait> ClientRun<'a, R> {
     {
         match Talk::new(self.alloc, centre, text) {
             Ok(Ok(talk)) => self.connect(outside, talk),
-            Ok(Err(fault)) => refuse(outside, "script", Refusal::BadLine(fault.line)),
+            Ok(Err(fault)) => {
+                note_fault(self.alloc, outside, text, fault);
+                refuse(outside, "script", Refusal::BadLine(fault.line))
+            }
             Err(AllocError) => Status::Memory,
         }
     }
@@ -134,11 +151,11 @@ impl<'a, R: Wait> ClientRun<'a, R> {
             (O.told outside.new) result }
     {
         let mut talk = talk;
-        let mut link = link;
-        let mut sink = sink;
-        let end = run_client(self.rt, &mut talk, &mut link, &mut sink);
+        let mut terminal = LinkTerminal { link, sink };
+        let end = run_client(self.rt, &mut talk, &mut terminal);
+        let LinkTerminal { link, mut sink } = terminal;
         close_link(outside, link);
-        let status = tell_run_end(self.alloc, &mut sink, end);
+        let status = tell_run_end(&mut sink, end);
         outside.close_out(sink);
         status
     }

@@ -8,6 +8,7 @@ ghost use Rattle.tase_tool.specs.Server.Serving.{ServesCommand, TakesCourse, Ser
 ghost use Rattle.tase_tool.specs.Server.Serving.{TellsEnd, KeepsNode, ClosesServer};
 
 use crate::server::opening::{Opened, open_all};
+use crate::server::telling::{note_journal, note_served};
 use bilateral::Centre;
 use commands::files::{read_tables, status_behind, write_journal};
 use commands::io::{InputEnd, Refusal, Status, end_unread, tell_full, tell_refusal};
@@ -168,6 +169,8 @@ impl<'a, R: Threads + Wait + Copy + Send + 'static> ServeCommand<'a, R> {
         ensures left { spawner.new.told.pending ≡ [] }
     {
         let left = self.serve_on(spawner, centre, opened);
+        let failed = left.plant.faults() > 0;
+        note_served(self.alloc, outside, &left.served, failed);
         let (node, status) = close_server(outside, left);
         keep_node(self.alloc, outside, &node, self.words.journal, status)
     }
@@ -248,6 +251,7 @@ fn keep_node<O: Outside>(
     match node {
         Some(node) => {
             let written = write_journal(alloc, outside, node, name);
+            note_journal(alloc, outside, name, written);
             status_behind(status, written)
         }
         None => status,

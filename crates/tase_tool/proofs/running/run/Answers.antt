@@ -1,37 +1,36 @@
-use Rattle.std.proofs.Common.{refl, subst}
-use Rattle.commands.specs.declared.io.status.Status.TheVariants.{Memory}
-use Rattle.commands.specs.Io.Saying.{texts_of}
+use Rattle.std.proofs.Common.{sym, subst, Some}
 use Rattle.std.specs.Prelude.{map, string_bytes}
+use Rattle.commands.specs.Io.Saying.{texts_of}
 use Rattle.commands.specs.Words.Words.{task_in}
-use Rattle.tase_tool.specs.Running.{RunsTask}
+use Rattle.outside.specs.Names.Outside.{OutsideTold}
+use Rattle.tase_tool.specs.Running.{RunsTask, waits_for}
 use Rattle.tase_tool.specs.Sent.{SendsBy}
 use Rattle.tase_tool.proofs.Sending.{output_of}
-use Rattle.tase_tool.proofs.Duties.{SendsBy-still}
-use Rattle.tase_tool.proofs.Tasks.{RunsTask-idle}
+use Rattle.tase_tool.proofs.Tasks.{RunsTask-texts, waits-send}
 use Rattle.tase_tool.proofs.running.run.Goals as goal
 
 pub returns-in-Ok-clause-runs : goal.returns-in-Ok-clause-runs
 returns-in-Ok-clause-runs g c =
-    subst (λ task. RunsTask task (g.O.Outside.told c.args.outside.now)
-    (g.O.Outside.told c.run_command.new.outside) c.args.spawner.now.told.faults
-    c.run_command.new.spawner.told.faults c.run_command.result)
-    c.in-Ok.ensures.asked c.run_command.ensures.runs
-
-pub returns-in-Ok-clause-sent : goal.returns-in-Ok-clause-sent
-returns-in-Ok-clause-sent g c =
-    subst (λ task. SendsBy task (texts_of (g.O.Outside.told c.args.outside.now))
-    c.run_command.result (output_of (g.O.Outside.told c.args.outside.now).sinks)
-    (output_of (g.O.Outside.told c.run_command.new.outside).sinks))
-    c.in-Ok.ensures.asked c.run_command.ensures.sent
+    RunsTask-texts (task_in (map string_bytes c.args.words.now))
+    (g.O.Outside.told c.args.outside.now) (g.O.Outside.told c.run_texts.new.outside)
+    c.args.spawner.now.told.faults c.in-Ok.status c.in-Ok.ensures.runs
 
 pub returns-in-Err-clause-runs : goal.returns-in-Err-clause-runs
 returns-in-Err-clause-runs g c =
-    RunsTask-idle (task_in (map string_bytes c.args.words.now))
-    (g.O.Outside.told c.args.outside.now) c.args.spawner.now.told.faults
-    c.in-Err.ensures.memory
+    let after = g.O.Outside.told c.run_waiting.new.outside in
+    subst (λ task. RunsTask task (g.O.Outside.told c.args.outside.now) after
+    c.args.spawner.now.told.faults c.run_waiting.new.spawner.told.faults c.run_waiting.result)
+    (sym c.in-Err.ensures.runs.0)
+    (subst (λ (o : OutsideTold). RunsTask (Some (waits_for c.in-Err.waiting)) o after
+    c.args.spawner.now.told.faults c.run_waiting.new.spawner.told.faults c.run_waiting.result)
+    c.in-Err.ensures.runs.1 c.run_waiting.ensures.runs)
 
 pub returns-in-Err-clause-sent : goal.returns-in-Err-clause-sent
 returns-in-Err-clause-sent g c =
-    SendsBy-still (task_in (map string_bytes c.args.words.now))
-    (texts_of (g.O.Outside.told c.args.outside.now)) Memory
-    (output_of (g.O.Outside.told c.args.outside.now).sinks) refl
+    subst (λ task. SendsBy task (texts_of (g.O.Outside.told c.args.outside.now))
+    c.run_waiting.result (output_of (g.O.Outside.told c.args.outside.now).sinks)
+    (output_of (g.O.Outside.told c.run_waiting.new.outside).sinks))
+    (sym c.in-Err.ensures.runs.0)
+    (waits-send c.in-Err.waiting (texts_of (g.O.Outside.told c.args.outside.now))
+    c.run_waiting.result (output_of (g.O.Outside.told c.args.outside.now).sinks)
+    (output_of (g.O.Outside.told c.run_waiting.new.outside).sinks))

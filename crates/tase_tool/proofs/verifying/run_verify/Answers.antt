@@ -1,10 +1,9 @@
-use Rattle.std.proofs.Common.{codes, [], ◌∷◌}
+use Rattle.std.proofs.Common.{codes}
 use Rattle.commands.specs.declared.io.input.TheConstants.{TEXT_LIMIT}
 use Rattle.commands.proofs.OfIo.Plans.{IsRun-value}
 use Rattle.commands.specs.Words.Words.{question_seen}
 use Rattle.commands.specs.Files.Tables.{tables_in}
 use Rattle.tase_tool.specs.Verifying.{input_asked, journal_plan}
-use Rattle.tase_tool.proofs.Verified.{journal_fits}
 use Rattle.tase_tool.proofs.verifying.run_verify.Goals as goal
 
 pub returns : goal.returns
@@ -13,8 +12,6 @@ returns g c =
     IsRun-value (g.O.Outside.told c.args.outside.now)
     (g.O.Outside.told c.read_tables-read.new.outside)
     (g.O.Outside.told c.verify_over.new.outside)
-    (input_asked (codes "tables") TEXT_LIMIT
-    (question.journal ∷ question.given ∷ question.sent ∷ []) question.tables)
-    tables_in (journal_plan question) (journal_fits question)
+    (input_asked (codes "tables") TEXT_LIMIT question.tables) tables_in (journal_plan question)
     c.read_tables-read.result c.verify_over.result
     c.read_tables-read.ensures c.verify_over.ensures

@@ -1,11 +1,10 @@
-use Rattle.std.proofs.Common.{codes, [], ◌∷◌}
+use Rattle.std.proofs.Common.{codes}
 use Rattle.commands.specs.declared.io.input.TheConstants.{TEXT_LIMIT}
 use Rattle.commands.specs.Io.Inputs.{value_as}
 use Rattle.commands.proofs.OfIo.Plans.{IsRun-value}
 use Rattle.tase_verify.specs.LinkText.{given_in}
 use Rattle.commands.specs.Words.Words.{question_seen}
 use Rattle.tase_tool.specs.Verifying.{input_asked, link_given, sent_plan}
-use Rattle.tase_tool.proofs.Verified.{sent_fits}
 use Rattle.tase_tool.proofs.verifying.verify_meant.Goals as goal
 
 pub returns : goal.returns
@@ -16,7 +15,7 @@ returns g c =
     λ past is. IsRun-value (g.O.Outside.told c.args.outside.now)
     (g.O.Outside.told c.read_link-read.new.outside)
     (g.O.Outside.told c.verify_given.new.outside)
-    (input_asked (codes "in") TEXT_LIMIT (question.sent ∷ []) question.given) given_in
-    (sent_plan question rows key past) (sent_fits question rows key past)
+    (input_asked (codes "in") TEXT_LIMIT question.given) given_in
+    (sent_plan question rows key past)
     (value_as link_given c.read_link-read.result) c.verify_given.result
     c.read_link-read.ensures (c.verify_given.ensures past is)

@@ -8,6 +8,6 @@ returns-in-Some g c = λ start so e. c.in-Some.ensures.flushes start so
 
 pub returns-in-None : goal.returns-in-None
 returns-in-None g c = λ start so e.
-    ends_flushed start (g.L.Link.told c.flush.new.link) (g.K.Sink.told c.flush.new.sink)
-    c.flush.new.talk c.args.end (c.in-None.ensures.flushes start so)
+    ends_flushed start (g.T.Terminal.told c.flush.new.terminal) c.flush.new.talk c.args.end
+    (c.in-None.ensures.flushes start so)
     (ap (λ (x : Caller). x.calling.end) c.flush.ensures.client ∙ e)

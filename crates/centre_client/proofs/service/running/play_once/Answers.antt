@@ -7,19 +7,16 @@ returns-in-Some g c = λ start so e. c.in-Some.ensures.flushes start so
 
 pub returns-in-GoesOn : goal.returns-in-GoesOn
 returns-in-GoesOn g c = λ start so e.
-    c.in-GoesOn.ensures start (g.K.Sink.told c.flush.new.sink)
-    (c.in-None.ensures.flushes start so)
+    c.in-GoesOn.ensures start (c.in-None.ensures.flushes start so)
     (ap (λ (x : Caller). x.calling.end) c.flush.ensures.client ∙ e)
 
 pub returns-in-Ends : goal.returns-in-Ends
 returns-in-Ends g c = λ start so e.
-    let t = c.in-Ends.ensures start (g.K.Sink.told c.flush.new.sink)
-    (c.in-None.ensures.flushes start so)
+    let t = c.in-Ends.ensures start (c.in-None.ensures.flushes start so)
     (ap (λ (x : Caller). x.calling.end) c.flush.ensures.client ∙ e) in
     c.leave.ensures start t.0 t.1
 
 pub returns-in-Fails : goal.returns-in-Fails
 returns-in-Fails g c = λ start so e.
-    c.in-Fails.ensures start (g.K.Sink.told c.flush.new.sink)
-    (c.in-None.ensures.flushes start so)
+    c.in-Fails.ensures start (c.in-None.ensures.flushes start so)
     (ap (λ (x : Caller). x.calling.end) c.flush.ensures.client ∙ e)

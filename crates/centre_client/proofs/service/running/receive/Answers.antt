@@ -4,25 +4,25 @@ use Rattle.centre_client.proofs.OfService.Received.{piece_taken, nothing_came, l
 use Rattle.centre_client.proofs.service.running.receive.Goals as goal
 
 pub returns-in-Got : goal.returns-in-Got
-returns-in-Got g c = λ start sink f e.
-    piece_taken start (g.L.Link.told c.args.link.now) sink c.args.talk.now f e
-    (g.L.Link.told c.recv.new.self) (Got c.in-Got.count) c.recv.new.buf c.in-Got.ensures
+returns-in-Got g c = λ start f e.
+    piece_taken start (g.T.Terminal.told c.args.terminal.now) c.args.talk.now f e
+    (g.T.Terminal.told c.recv.new.self) (Got c.in-Got.count) c.recv.new.buf c.in-Got.ensures
     (take c.in-Got.count c.recv.new.buf) refl tt refl c.hear.result c.hear.new.talk c.hear.ensures
 
 pub returns-in-Idle : goal.returns-in-Idle
-returns-in-Idle g c = λ start sink f e. (
-  nothing_came start (g.L.Link.told c.args.link.now) sink c.args.talk.now f e
-      (g.L.Link.told c.recv.new.self) Idle c.recv.new.buf c.in-Idle.ensures refl tt refl,
+returns-in-Idle g c = λ start f e. (
+  nothing_came start (g.T.Terminal.told c.args.terminal.now) c.args.talk.now f e
+      (g.T.Terminal.told c.recv.new.self) Idle c.recv.new.buf c.in-Idle.ensures refl tt refl,
   e,
 )
 
 pub returns-in-End : goal.returns-in-End
-returns-in-End g c = λ start sink f e.
-    link_ended start (g.L.Link.told c.args.link.now) sink c.args.talk.now f e
-    (g.L.Link.told c.recv.new.self) End c.recv.new.buf c.in-End.ensures c.peer_end.result refl
+returns-in-End g c = λ start f e.
+    link_ended start (g.T.Terminal.told c.args.terminal.now) c.args.talk.now f e
+    (g.T.Terminal.told c.recv.new.self) End c.recv.new.buf c.in-End.ensures c.peer_end.result refl
     refl refl c.peer_end.ensures
 
 pub returns-in-Failed : goal.returns-in-Failed
-returns-in-Failed g c = λ start sink f e.
-    link_fault start (g.L.Link.told c.args.link.now) sink c.args.talk.now f e
-    (g.L.Link.told c.recv.new.self) Failed c.recv.new.buf c.in-Failed.ensures refl refl
+returns-in-Failed g c = λ start f e.
+    link_fault start (g.T.Terminal.told c.args.terminal.now) c.args.talk.now f e
+    (g.T.Terminal.told c.recv.new.self) Failed c.recv.new.buf c.in-Failed.ensures refl refl

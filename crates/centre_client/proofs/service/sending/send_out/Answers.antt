@@ -3,14 +3,18 @@ use Rattle.std.proofs.lemmas.Grind.{common_steps}
 use Rattle.outside.specs.declared.sink.WriteEnd.TheVariants.{Took, Failed}
 use Rattle.outside.specs.Links.Links.{SendsPiece}
 use Rattle.centre_client.proofs.OfService.SentOut.{sent_none, sent_all, sent_more, sent_nothing, sent_failed}
+use Rattle.centre_client.proofs.OfService.SentOut.{unwritten_none, unwritten_then}
 use Rattle.centre_client.proofs.service.sending.send_out.Goals as goal
 
 pub sends-init : goal.sends-init
-sends-init g c = λ first heard.
-    sent_none (g.L.Link.told c.args.link.now) first c.args.out.now.items heard
+sends-init g c = (
+  λ first heard.
+      sent_none (g.T.Terminal.told c.args.terminal.now).link first c.args.out.now.items heard,
+  unwritten_none (g.T.Terminal.told c.args.terminal.now),
+)
 
 pub cut-requires : goal.cut-requires
-cut-requires g c = omega (arith, c.in-Took.ensures.count, c.as_slice-waits.ensures.len)
+cut-requires g c = omega (arith, c.in-Took.ensures.sends.count, c.as_slice-waits.ensures.len)
 
 pub sends-smaller : goal.sends-smaller
 sends-smaller g c =
@@ -19,42 +23,59 @@ sends-smaller g c =
     omega (
       arith,
       e,
-      c.in-Took.ensures.count,
+      c.in-Took.ensures.sends.count,
       ap length c.as_slice-waits.ensures.value,
       c.if-count-eq0.false,
     )
 
 pub sends-preserved : goal.sends-preserved
-sends-preserved g c = λ first heard.
-    let here = g.L.Link.told c.sends.link in
-    let after = g.L.Link.told c.send.new.self in
-    let s = subst (λ (l : List ℕ). SendsPiece here after (Took c.in-Took.count) l)
-    c.as_slice-waits.ensures.value c.in-Took.ensures in
-    sent_more (g.L.Link.told c.args.link.now) here after first c.args.out.now.items
-    c.sends.out.items (c.sends.invariant first heard) c.cut.new.octets.items c.in-Took.count s
-    c.cut.ensures
+sends-preserved g c =
+    let here = g.T.Terminal.told c.sends.terminal in
+    let after = g.T.Terminal.told c.send.new.self in (
+      λ first heard.
+          let s = subst (λ (l : List ℕ). SendsPiece here.link after.link (Took c.in-Took.count) l)
+          c.as_slice-waits.ensures.value c.in-Took.ensures.sends in
+          sent_more (g.T.Terminal.told c.args.terminal.now).link here.link after.link first
+          c.args.out.now.items c.sends.out.items (c.sends.invariant.0 first heard)
+          c.cut.new.octets.items c.in-Took.count s c.cut.ensures,
+      unwritten_then (g.T.Terminal.told c.args.terminal.now) here after c.sends.invariant.1
+          c.in-Took.ensures.unwritten,
+    )
 
-pub returns-then-count-eq0 : goal.returns-then-count-eq0
-returns-then-count-eq0 g c = λ first heard.
-    let here = g.L.Link.told c.sends.link in
-    let after = g.L.Link.told c.send.new.self in
+pub returns-then-count-eq0-clause-sends : goal.returns-then-count-eq0-clause-sends
+returns-then-count-eq0-clause-sends g c = λ first heard.
+    let here = (g.T.Terminal.told c.sends.terminal).link in
+    let after = (g.T.Terminal.told c.send.new.self).link in
     let s = subst (λ (l : List ℕ). SendsPiece here after (Took c.in-Took.count) l)
-    c.as_slice-waits.ensures.value c.in-Took.ensures in
-    sent_nothing (g.L.Link.told c.args.link.now) here after first c.args.out.now.items
-    c.sends.out.items (c.sends.invariant first heard)
+    c.as_slice-waits.ensures.value c.in-Took.ensures.sends in
+    sent_nothing (g.T.Terminal.told c.args.terminal.now).link here after first
+    c.args.out.now.items c.sends.out.items (c.sends.invariant.0 first heard)
     (subst (λ (n : ℕ). SendsPiece here after (Took n) c.sends.out.items) c.if-count-eq0.true s)
 
-pub returns-in-Failed : goal.returns-in-Failed
-returns-in-Failed g c = λ first heard.
-    let here = g.L.Link.told c.sends.link in
-    let after = g.L.Link.told c.send.new.self in
-    sent_failed (g.L.Link.told c.args.link.now) here after first c.args.out.now.items
-    c.sends.out.items (c.sends.invariant first heard)
-    (subst (λ (l : List ℕ). SendsPiece here after Failed l) c.as_slice-waits.ensures.value
-    c.in-Failed.ensures)
+pub returns-then-count-eq0-clause-unwritten : goal.returns-then-count-eq0-clause-unwritten
+returns-then-count-eq0-clause-unwritten g c =
+    unwritten_then (g.T.Terminal.told c.args.terminal.now) (g.T.Terminal.told c.sends.terminal)
+    (g.T.Terminal.told c.send.new.self) c.sends.invariant.1 c.in-Took.ensures.unwritten
 
-pub returns : goal.returns
-returns g c = λ first heard.
+pub returns-in-Failed-clause-sends : goal.returns-in-Failed-clause-sends
+returns-in-Failed-clause-sends g c = λ first heard.
+    let here = (g.T.Terminal.told c.sends.terminal).link in
+    let after = (g.T.Terminal.told c.send.new.self).link in
+    sent_failed (g.T.Terminal.told c.args.terminal.now).link here after first
+    c.args.out.now.items c.sends.out.items (c.sends.invariant.0 first heard)
+    (subst (λ (l : List ℕ). SendsPiece here after Failed l) c.as_slice-waits.ensures.value
+    c.in-Failed.ensures.sends)
+
+pub returns-in-Failed-clause-unwritten : goal.returns-in-Failed-clause-unwritten
+returns-in-Failed-clause-unwritten g c =
+    unwritten_then (g.T.Terminal.told c.args.terminal.now) (g.T.Terminal.told c.sends.terminal)
+    (g.T.Terminal.told c.send.new.self) c.sends.invariant.1 c.in-Failed.ensures.unwritten
+
+pub returns-clause-sends : goal.returns-clause-sends
+returns-clause-sends g c = λ first heard.
     let none : c.sends.out.items ≡ [] = grind (arith, common_steps) in
-    sent_all (g.L.Link.told c.args.link.now) (g.L.Link.told c.sends.link) first
-    c.args.out.now.items c.sends.out.items (c.sends.invariant first heard) none
+    sent_all (g.T.Terminal.told c.args.terminal.now).link (g.T.Terminal.told c.sends.terminal).link
+    first c.args.out.now.items c.sends.out.items (c.sends.invariant.0 first heard) none
+
+pub returns-clause-unwritten : goal.returns-clause-unwritten
+returns-clause-unwritten g c = c.sends.invariant.1

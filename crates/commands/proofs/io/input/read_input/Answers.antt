@@ -7,7 +7,7 @@ pub returns : goal.returns
 returns g c =
     subst (λ r. ReadsInput (g.O.Outside.told c.args.outside.now)
     (g.O.Outside.told c.close_in.new.self) c.args.name.now c.args.limit r)
-    (sym c.input_from.ensures)
+    (sym c.input_from-input.ensures)
     (ReadsInput-from (g.O.Outside.told c.args.outside.now) (g.O.Outside.told c.open_in.new.self)
     (g.O.Outside.told c.close_in.new.self) c.args.name.now c.args.limit c.requires
     (g.O.In.Source.told c.in-Some.source) (g.O.In.Source.told c.read_text-read.new.source)

@@ -1,5 +1,0 @@
-use Rattle.std.proofs.Common.{append_assoc, rules}
-use Rattle.tase_tool.proofs.client.ending.named_line.Goals as goal
-
-pub returns : goal.returns
-returns c = search (rules, append_assoc)
