@@ -61,6 +61,9 @@ FINISH = bytes.fromhex("0300001902f0800910c10e610c300a020101a0056203800100")
 DISCONNECT = bytes.fromhex("0300001902f0800a10c10e610c300a020101a0056303800100")
 ABORT = bytes.fromhex("0300001e02f080191511010bc110a00e610c300a020101a0056403800100")
 
+# How a notice tells that a connection has ended, behind the other node's address.
+ENDED = r": (?:peer \w+: )?(?:finished|peerend|declined|refused \w+ \d+ \w+|toolong \d+ \d+|overflow \d+ \d+|link|stopped|full \d+ \d+|memory)\n"
+
 # How long an answer may take, in seconds.
 PATIENCE = 20
 
@@ -133,6 +136,14 @@ class Server:
     def feed(self, *lines):
         self.run.stdin.write("".join(f"{line}\n" for line in lines).encode())
         self.run.stdin.flush()
+
+    def notices(self):
+        """What it has told on standard error."""
+        return open(f"{self.folder}/notices").read()
+
+    def tells(self, peer, words, seconds=5):
+        """Whether it tells this of the connection of a peer of octets."""
+        return within(seconds, lambda: f": 127.0.0.1:{peer.port}: {words}\n" in self.notices())
 
     def memory(self):
         """What it has in memory, in KiB."""
@@ -225,6 +236,8 @@ class Raw:
         self.socket.settimeout(PATIENCE)
         self.socket.connect(("127.0.0.1", port))
         self.socket.setsockopt(socket.IPPROTO_TCP, socket.TCP_NODELAY, 1)
+        # its own, under which the server tells of it
+        self.port = self.socket.getsockname()[1]
 
     def say(self, octets, piece=None):
         piece = piece or len(octets) or 1
