@@ -1,7 +1,7 @@
 -- The work of a server's own thread, up to its end.
 use Rattle.std.proofs.Common.{◌≡◌, ℕ, ◌+◌, ◌-◌, ◌^◌, ◌<◌, ◌≤◌, Bool, true, false, List, []}
 use Rattle.std.proofs.Common.{◌++◌, length, map, refl, sym, ap, subst, ◌∙◌, arith, append_assoc}
-use Rattle.std.proofs.Common.{Option, Some, None, is_some, IfSome}
+use Rattle.std.proofs.Common.{Option, Some, None, is_some, IfSome, length-append}
 use Rattle.std.specs.Prelude.{option_map}
 use Rattle.std.proofs.lemmas.List.{append-nil}
 use Rattle.outside.specs.Sink.{SinkTold, AppendsAll, AppendsPart}
@@ -19,7 +19,7 @@ use Rattle.node_server.specs.declared.jobs.parts.JobParts.{JobParts}
 use Rattle.server_main.specs.Run.Gathering.{SharedNode, SeatClaim}
 use Rattle.server_main.specs.Run.Starting.{TakesBack}
 use Rattle.server_main.specs.Run.Accepting.{accepting}
-use Rattle.server_main.specs.Run.Beginning.{IsFirstSeat, BeginsJobs, IsBeginning}
+use Rattle.server_main.specs.Run.Beginning.{IsFirstSeat, BeginsJobs, IsBeginning, jobs_back}
 use Rattle.server_main.specs.Run.Serving.{KeepsServing}
 use Rattle.server_main.specs.Run.Rounds.{ServingState, serving_state, ServesOn}
 use Rattle.server_main.specs.declared.run.beginning.Begun.{Begun}
@@ -44,7 +44,7 @@ record WorkedOn {L S C : Type 0} (node : SharedNode) (before after : ServingStat
     (faults : ℕ) (serving : List (JobParts L S C)) (work : WorkEnd) : Type 0 where
   askings : List NodeCall
   turned : List LinkTold
-  seat : SeatAfterRounds node before.now.seat after.now.seat askings
+  seat : SeatAfterRounds node before.now.seat after.now.seat askings (length turned)
   last : IsLastAsking work askings
   listener : ListenerAfterRounds before.now.listener after.now.listener (length askings) turned
       (is_listener_work work)
@@ -119,11 +119,12 @@ few-calls None = tt
 few-calls (Some calls) = λ short. omega arith
 
 abbrev seat-same : (node : SharedNode) (seat : NodeSeat) → IsOf node seat
-    → SeatAfterRounds node seat seat []
+    → SeatAfterRounds node seat seat [] 0
 seat-same node seat of = record {
   of = of;
   number = refl;
   claims = [];
+  count = refl;
   ended = refl;
   none = tt;
   asks = tt;
@@ -229,13 +230,13 @@ module _ {L S C : Type 0} (node : SharedNode) (first mid : NodeSeat) (listener :
     Behind = serving_state (accepting mid listener spawner no_links) plant
 
     has-worked : (front : NodeLog) (serving : List (JobParts L S C)) (work : WorkEnd)
-        → IsFirstSeat node first → TakesBack node first mid
+        → IsFirstSeat node first → (back : ℕ) → TakesBack node back first mid
         → WorkedOn node Behind after start.faults serving work
         → StopsNode node.setup work after.now.seat front
         → HasWorked node (serving_state (accepting first listener start no_links) plant)
         (serving_state (record after.now { seat = at after.now.seat front }) after.plant)
-        (length serving) work
-    has-worked front serving work is back on stops =
+        (length serving) back work
+    has-worked front serving work is many back on stops =
         let number : after.now.seat.number ≡ first.number = on.seat.number ∙ back.number in
         record {
           askings = on.askings;
@@ -243,6 +244,12 @@ module _ {L S C : Type 0} (node : SharedNode) (first mid : NodeSeat) (listener :
           turned = on.turned;
           number = number;
           joined = on.seat.claims ++ back.claims;
+          count = omega (
+            arith,
+            length-append on.seat.claims back.claims,
+            on.seat.count,
+            back.count,
+          );
           ended = on.seat.ended ∙ ap (λ (l : List SeatClaim). on.seat.claims ++ l) back.ended
               ∙ sym (append_assoc on.seat.claims back.claims first.ended);
           none = each_append (λ (claim : SeatClaim). own claim.0 claim.1 ≡ []) on.seat.claims
@@ -292,7 +299,7 @@ module _ {L S C : Type 0} (told : Telling L S C) (node : SharedNode)
         to_gather = to-gather told node given begun.feed begun.clock spawner after.now front
             begins.feed_is begins.ticks_are begins.no_more serves;
         worked = has-worked node first mid listener start spawner plant after front serves.serving
-            work is begins.back on stops;
+            work is (jobs_back begun.clock) begins.back on stops;
         unstarted = λ refused. (
           unticked-refused told.link node law start spawner begun.feed begun.clock begun.end work
               before after begins.end_is behind refused,

@@ -16,6 +16,7 @@ use Rattle.server_main.specs.Run.Gathering.{SharedNode, SeatClaim, IsLinkJob, Fe
 use Rattle.server_main.specs.Run.Gathering.{behind_started}
 use Rattle.server_main.specs.Run.Retiring.{LinksNoted, AreOut}
 use Rattle.server_main.specs.Run.Accepting.{Accepting}
+use Rattle.server_main.specs.Run.Beginning.{jobs_back}
 use Rattle.server_main.specs.Run.Rounds.{ServingState, ServesOn}
 use Rattle.server_main.specs.declared.run.beginning.Beginning.{Beginning}
 use Rattle.server_main.specs.declared.run.beginning.Beginning.TheVariants as beginnings
@@ -96,15 +97,18 @@ WorksBehind {L} {S} {C} told node before after beginnings.Memory work =
     (work ≡ works.Ended servings.Memory) × (after ≡ before)
 
 -- What was done from where a server stood with no links: so many jobs of links are pending now, its
--- own seat asked for orders and then the stop, and the plant has what that seat was given.
+-- own seat asked for orders and then the stop, and the plant has what that seat was given. So many
+-- jobs of the feed and of the clock were to be started and came back.
 pub record HasWorked {L S C : Type 0} (node : SharedNode) (before after : ServingState L S C)
-    (started : ℕ) (work : WorkEnd) : Type 0 where
+    (started back : ℕ) (work : WorkEnd) : Type 0 where
   pub askings : List NodeCall
   pub stop : List NodeCall
   pub turned : List LinkTold
   pub number : after.now.seat.number ≡ before.now.seat.number
   -- the numbers of seats for jobs that weren't started, under which no event was taken
   pub joined : List SeatClaim
+  -- one for each link that was turned away, and for the job of the feed or of the clock
+  pub count : length joined ≡ length turned + back
   pub ended : after.now.seat.ended ≡ joined ++ before.now.seat.ended
   pub none : Each (λ (claim : SeatClaim). own claim.0 claim.1 ≡ []) joined
   pub asks : Each AsksForOrders askings
@@ -126,7 +130,7 @@ pub record WorksToEnd {L S C : Type 0} (told : Telling L S C) (node : SharedNode
     (given : InputsTold) (before after : ServingState L S C) (unrun : Option S)
     (unticked : Option C) (work : WorkEnd) : Type 0 where
   pub to_gather : IsToGather told node given unrun unticked after.now
-  pub worked : HasWorked node before after (length to_gather.serving) work
+  pub worked : HasWorked node before after (length to_gather.serving) (jobs_back unticked) work
   -- where a start was refused, the clock wasn't told, and no link was accepted
   pub unstarted : work ≡ works.Refused
       → (is_some unticked ≡ true) × (to_gather.serving ≡ [])

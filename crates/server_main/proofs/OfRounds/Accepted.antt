@@ -81,7 +81,7 @@ accept-stops acceptances.Memory =
 pub record AcceptDone {L S C : Type 0} (node : SharedNode) (before after : Accepting L S C)
     (end : Option ServingEnd) : Type 0 where
   pub turned : List LinkTold
-  pub back : TakesBack node before.seat after.seat
+  pub back : TakesBack node (length turned) before.seat after.seat
   pub listener : ListenerSoFar before.listener after.listener (calls_owed end) turned
       (is_listener_end_so end)
   pub given : GivenSoFar before.listener after.listener before.spawner after.spawner

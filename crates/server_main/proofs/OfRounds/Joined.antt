@@ -32,7 +32,7 @@ pub record RoundsSoFar {L S C : Type 0} (node : SharedNode) (before after : Serv
     (end : Option ServingEnd) : Type 0 where
   pub calls : List NodeCall
   pub turned : List LinkTold
-  pub seat : SeatAfterRounds node before.now.seat after.now.seat calls
+  pub seat : SeatAfterRounds node before.now.seat after.now.seat calls (length turned)
   pub last : LastSo end calls
   pub listener : ListenerSoFar before.now.listener after.now.listener (length calls) turned
       (is_listener_end_so end)
@@ -56,7 +56,8 @@ module _ {L S C : Type 0} (node : SharedNode) where
   ended-so-far before mid stop done stops = record {
     calls = [];
     turned = done.turned;
-    seat = seat-called node before.now.seat mid.seat mid.seat [] done.back refl tt refl;
+    seat = seat-called node before.now.seat mid.seat mid.seat [] (length done.turned) done.back
+        refl tt refl;
     last = stops.last;
     listener = done.listener;
     given = done.given;
@@ -78,8 +79,8 @@ module _ {L S C : Type 0} (node : SharedNode) where
   taken-so-far before mid seat plant end done orders = record {
     calls = orders.call ∷ [];
     turned = done.turned;
-    seat = seat-called node before.now.seat mid.seat seat (orders.call ∷ []) done.back orders.same
-        (orders.asks, tt) orders.made;
+    seat = seat-called node before.now.seat mid.seat seat (orders.call ∷ []) (length done.turned)
+        done.back orders.same (orders.asks, tt) orders.made;
     last = orders.last;
     listener = subst (λ (b : Bool). ListenerSoFar before.now.listener mid.listener 1 done.turned b)
         (sym orders.quiet) done.listener;
@@ -149,8 +150,10 @@ module _ {L S C : Type 0} (node : SharedNode) where
   rounds-then a b c end first then = record {
     calls = first.calls ++ then.calls;
     turned = first.turned ++ then.turned;
-    seat = seats-then node a.now.seat b.now.seat c.now.seat first.calls then.calls first.seat
-        then.seat;
+    seat = subst (λ (n : ℕ). SeatAfterRounds node a.now.seat c.now.seat
+        (first.calls ++ then.calls) n) (sym (length-append first.turned then.turned))
+        (seats-then node a.now.seat b.now.seat c.now.seat first.calls then.calls
+        (length first.turned) (length then.turned) first.seat then.seat);
     last = last-then end first.calls then.calls then.last;
     listener = subst (λ (n : ℕ). ListenerSoFar a.now.listener c.now.listener n
         (first.turned ++ then.turned) (is_listener_end_so end))

@@ -1,5 +1,6 @@
 -- The calls of a seat that ends other seats between them.
-use Rattle.std.proofs.Common.{◌≡◌, ℕ, List, [], ◌∷◌, ◌++◌, refl, sym, ap, ◌∙◌, subst, append_assoc}
+use Rattle.std.proofs.Common.{◌≡◌, ℕ, ◌+◌, List, [], ◌∷◌, ◌++◌, refl, sym, ap, ◌∙◌, subst}
+use Rattle.std.proofs.Common.{append_assoc, arith, length-append}
 use Rattle.share_turn.specs.Entries.{Each}
 use Rattle.share_turn.specs.Public.{IsOf, at, Came}
 use Rattle.share_turn.proofs.Owned.{each_append}
@@ -27,37 +28,41 @@ calls_so setup seat other (call ∷ calls) front number seen made = (
 
 -- nothing was split
 pub back-same : (node : SharedNode) (before after : NodeSeat) → IsOf node before
-    → after ≡ before → TakesBack node before after
+    → after ≡ before → TakesBack node 0 before after
 back-same node before after of same = record {
   of = subst (λ (s : NodeSeat). IsOf node s) (sym same) of;
   number = ap (λ (s : NodeSeat). s.number) same;
   front = ap (λ (s : NodeSeat). s.front) same;
   claims = [];
+  count = refl;
   ended = ap (λ (s : NodeSeat). s.ended) same;
   none = tt;
 }
 
 -- seats were joined, and then calls were made
 pub seat-called : (node : SharedNode) (before mid after : NodeSeat) (calls : List NodeCall)
-    → TakesBack node before mid → after ≡ at mid after.front → Each AsksForOrders calls
-    → CallsNode node.setup mid calls after.front → SeatAfterRounds node before after calls
-seat-called node before mid after calls back same asks made = record {
+    (many : ℕ) → TakesBack node many before mid → after ≡ at mid after.front
+    → Each AsksForOrders calls → CallsNode node.setup mid calls after.front
+    → SeatAfterRounds node before after calls many
+seat-called node before mid after calls many back same asks made = record {
   of = subst (λ (s : NodeSeat). IsOf node s) (sym same) back.of;
   number = ap (λ (s : NodeSeat). s.number) same ∙ back.number;
   claims = back.claims;
+  count = back.count;
   ended = ap (λ (s : NodeSeat). s.ended) same ∙ back.ended;
   none = back.none;
   asks = asks;
   made = calls_so node.setup before mid calls after.front back.number back.front made;
 }
 
-pub seats-then : (node : SharedNode) (a b c : NodeSeat) (xs ys : List NodeCall)
-    → SeatAfterRounds node a b xs → SeatAfterRounds node b c ys
-    → SeatAfterRounds node a c (xs ++ ys)
-seats-then node a b c xs ys first then = record {
+pub seats-then : (node : SharedNode) (a b c : NodeSeat) (xs ys : List NodeCall) (m n : ℕ)
+    → SeatAfterRounds node a b xs m → SeatAfterRounds node b c ys n
+    → SeatAfterRounds node a c (xs ++ ys) (m + n)
+seats-then node a b c xs ys m n first then = record {
   of = then.of;
   number = then.number ∙ first.number;
   claims = then.claims ++ first.claims;
+  count = omega (arith, length-append then.claims first.claims, first.count, then.count);
   ended = then.ended ∙ (ap (λ (l : List SeatClaim). then.claims ++ l) first.ended
       ∙ sym (append_assoc then.claims first.claims a.ended));
   none = each_append _ then.claims first.claims then.none first.none;

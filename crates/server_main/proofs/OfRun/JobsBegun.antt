@@ -89,7 +89,7 @@ module _ {L S C : Type 0} (feed_told : S → SourceTold) (clock_told : C → Clo
       ap (λ (s : SpawnerTold (JobParts L S C)). s.pending) started.1.2
       ∙ ap (λ (p : List (JobParts L S C)). p ++ started.1.0 ∷ []) fed.is in
       subst (λ (b : Begun S C). Begins source clock before after told later b) (sym ended) (record {
-        back = subst (λ (s : NodeSeat). TakesBack node before s) (sym started.0)
+        back = subst (λ (s : NodeSeat). TakesBack node 0 before s) (sym started.0)
             (none-split node before of);
         feed_is = subst (λ (p : List (JobParts L S C)).
             FirstIs (IsFeedJob feed_told node (feed_told source)) p) (sym all)

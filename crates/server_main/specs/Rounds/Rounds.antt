@@ -66,13 +66,14 @@ CountsTurnedAway end many before after = after ≡ counted_up many before
 abbrev pub without_seat : LinkTold → Option LinkSeat
 without_seat link = None
 
--- the own seat asked the node for orders alone, joined seats under which no event was taken, and is
--- still one of the node
+-- the own seat asked the node for orders alone, joined so many seats under which no event was
+-- taken, and is still one of the node
 pub record SeatAfterRounds (node : SharedNode) (before after : NodeSeat) (calls : List NodeCall)
-    : Type 0 where
+    (many : ℕ) : Type 0 where
   pub of : IsOf node after
   pub number : after.number ≡ before.number
   pub claims : List SeatClaim
+  pub count : length claims ≡ many
   pub ended : after.ended ≡ claims ++ before.ended
   pub none : Each (λ (claim : SeatClaim). own claim.0 claim.1 ≡ []) claims
   pub asks : Each AsksForOrders calls
@@ -98,7 +99,8 @@ pub record RoundsDone {L S C : Type 0} (node : SharedNode) (before after : Servi
   pub turned : List LinkTold
   -- the jobs that were started, behind those that were pending before
   pub started : List (JobParts L S C)
-  pub seat : SeatAfterRounds node before.now.seat after.now.seat calls
+  -- each link that was turned away has had its seat joined again
+  pub seat : SeatAfterRounds node before.now.seat after.now.seat calls (length turned)
   pub last : IsLastCall end calls
   pub listener : ListenerAfterRounds before.now.listener after.now.listener (length calls) turned
       (is_listener_end end)

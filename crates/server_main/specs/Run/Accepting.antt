@@ -76,14 +76,15 @@ pub record Serves {L S C : Type 0} (told : L → LinkTold) (node : SharedNode)
       ≡ record before.spawner { pending = before.spawner.pending ++ job ∷ [] }
   pub room : after.links ≡ record before.links { rooms = before.links.rooms + 1 }
 
--- no job was started for it: it was closed and retired with nothing sent, and noted as such
+-- no job was started for it: it was closed and retired with nothing sent, and noted as such, and
+-- the seat that was split for its job was joined again
 pub record TurnsAway {L S C : Type 0} (node : SharedNode) (faults : ℕ)
     (before after : Accepting L S C) : Type 0 where
   pub link : LinkTold
   pub given : ListenerTold
   pub accepts : AcceptsLink before.listener given (Some link) false
   pub retired : after.listener ≡ with_retired given (closed_link link)
-  pub back : TakesBack node before.seat after.seat
+  pub back : TakesBack node 1 before.seat after.seat
   pub counted : after.spawner ≡ record before.spawner { faults = faults }
   pub noted : after.links ≡ record before.links { seats = before.links.seats ++ None ∷ [] }
 

@@ -1,5 +1,5 @@
 -- The beginning of a server: its node is shared, and the feed's and the clock's jobs are started.
-use Rattle.std.specs.Prelude.{◌≡◌, true, [], Option, Some, None, is_some}
+use Rattle.std.specs.Prelude.{◌≡◌, ℕ, true, [], Option, Some, None, is_some}
 use Rattle.outside.specs.Faults.{next_count}
 use Rattle.outside.specs.Source.{SourceTold}
 use Rattle.outside.specs.Links.Clocks.{ClockTold}
@@ -56,12 +56,18 @@ IsBeginning {L} {S} {C} told later unrun unticked ends.Refused =
 IsBeginning {L} {S} {C} told later unrun unticked ends.Memory =
     (is_some unticked ≡ true) × (later.faults ≡ told.faults)
 
+-- so many jobs were to be started and came back: none where the clock's was started, and else one,
+-- since no later one is begun
+abbrev pub jobs_back : {C : Type 0} → Option C → ℕ
+jobs_back {C} None = 0
+jobs_back {C} (Some clock) = 1
+
 -- The jobs of this feed and of this clock were started, in this order, or what isn't started comes
--- back as it was, and its job's seat was joined again. No other job is pending.
+-- back as it was, and the seat of the job that came back was joined again. No other job is pending.
 pub record BeginsJobs {L S C : Type 0} (feed_told : S → SourceTold) (clock_told : C → ClockTold)
     (node : SharedNode) (given : SourceTold) (clock : ClockTold) (before after : NodeSeat)
     (told later : SpawnerTold (JobParts L S C)) (begun : Begun S C) : Type 0 where
-  pub back : TakesBack node before after
+  pub back : TakesBack node (jobs_back begun.clock) before after
   pub feed_is : FeedStarted feed_told node given begun.feed later.pending
   pub ticks_are : TicksStarted clock_told node clock begun.clock
       (behind_started begun.feed later).pending

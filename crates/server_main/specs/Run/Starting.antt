@@ -1,5 +1,5 @@
 -- The start of a job of a shared node, by the main thread's seat.
-use Rattle.std.specs.Prelude.{◌≡◌, List, [], ◌∷◌, ◌++◌}
+use Rattle.std.specs.Prelude.{◌≡◌, ℕ, List, [], ◌∷◌, ◌++◌, length}
 use Rattle.std.specs.Arc.{arc_value}
 use Rattle.outside.specs.Faults.{next_count}
 use Rattle.outside.specs.Links.Jobs.{SpawnerTold}
@@ -38,28 +38,30 @@ pub record IsJobOn {L S C : Type 0} (node : SharedNode) (input : JobInput L S C)
   pub works_on : input_of job ≡ input
   pub fresh : HasFreshSeat node (node_of job) (seat_of job)
 
--- Seats that were split for jobs which came back were joined again: the seat is of the same node,
--- has seen what it had seen, and claims their numbers too, under which no event was taken.
-pub record TakesBack (node : SharedNode) (before after : NodeSeat) : Type 0 where
+-- So many seats, that were split for jobs which came back, were joined again: the seat is of the
+-- same node, has seen what it had seen, and claims their numbers too, under which no event was
+-- taken.
+pub record TakesBack (node : SharedNode) (many : ℕ) (before after : NodeSeat) : Type 0 where
   pub of : IsOf node after
   pub number : after.number ≡ before.number
   pub front : after.front ≡ before.front
   pub claims : List SeatClaim
+  pub count : length claims ≡ many
   pub ended : after.ended ≡ claims ++ before.ended
   pub none : Each (λ (claim : SeatClaim). own claim.0 claim.1 ≡ []) claims
 
 -- A job on this input was started, and is the last of those that are pending; or it wasn't, what
--- the input is made of comes back, and the job's seat was joined again. The spawner's count of
--- faults rises exactly where it refuses.
+-- the input is made of comes back, and the one seat that was split for it was joined again. The
+-- spawner's count of faults rises exactly where it refuses.
 abbrev pub StartsAs : {X L S C : Type 0} → (X → JobInput L S C) → SharedNode → X → NodeSeat
     → NodeSeat → SpawnerTold (JobParts L S C) → SpawnerTold (JobParts L S C) → Start X → Type 0
 StartsAs {X} {L} {S} {C} made node x before after told later starts.Started = (after ≡ before)
     × ((job : JobParts L S C) × IsJobOn node (made x) job
     × (later ≡ record told { pending = told.pending ++ job ∷ [] }))
 StartsAs {X} {L} {S} {C} made node x before after told later (starts.Memory back) =
-    (back ≡ x) × TakesBack node before after × (later ≡ told)
+    (back ≡ x) × TakesBack node 1 before after × (later ≡ told)
 StartsAs {X} {L} {S} {C} made node x before after told later (starts.Refused back) =
-    (back ≡ x) × TakesBack node before after
+    (back ≡ x) × TakesBack node 1 before after
     × (later ≡ record told { faults = next_count told.faults })
 
 -- the same of an input as it is

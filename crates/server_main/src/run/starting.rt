@@ -1,8 +1,8 @@
 //! The start of the jobs of a shared node, each with a seat of its own.
-ghost use Rattle.std.specs.Prelude.{◌≡◌, []};
+ghost use Rattle.std.specs.Prelude.{◌≡◌, [], ◌++◌};
 ghost use Rattle.std.specs.Arc.{arc_value};
 ghost use Rattle.share_turn.specs.Entries.{own};
-ghost use Rattle.share_turn.specs.Public.{IsOf};
+ghost use Rattle.share_turn.specs.Public.{IsOf, numbers};
 ghost use Rattle.server_main.specs.Run.Gathering.{HasFreshSeat};
 ghost use Rattle.server_main.specs.Run.Starting.{seat_of, input_of, node_of, TakesBack};
 ghost use Rattle.server_main.specs.Run.Starting.{StartsJobOn};
@@ -57,13 +57,15 @@ impl<'a, R: Threads + Wait + Copy + Send + 'static> Starter<'a, R> {
         ensures { StartsJobOn (arc_value self.now.shared.now) input seat.old seat.new
             spawner.old.told spawner.new.told result }
     {
+        let other = self.shared.split(self.rt, seat);
         let Ok(centre) = self.centre.clone() else {
+            join_again(self.shared, seat, other);
             return Start::Memory(input);
         };
         let Ok(shared) = self.shared.clone() else {
+            join_again(self.shared, seat, other);
             return Start::Memory(input);
         };
-        let other = self.shared.split(self.rt, seat);
         let job = job_on(self.alloc, centre, shared, other, input);
         match start_thread(self.rt, spawner, job) {
             Start::Started => Start::Started,
@@ -112,6 +114,17 @@ fn job_on<L, S, C>(
     }
 }
 
+/// Joins a seat again that was split for a job, and has seen what the own one has seen.
+fn join_again(shared: &Shared<TurnNode>, seat: &mut Seat<TurnNode>, other: Seat<TurnNode>)
+    requires of { IsOf shared.now seat.old }
+    requires fresh { HasFreshSeat shared.now shared.now other }
+    requires front { other.front ≡ seat.old.front }
+    ensures back { TakesBack shared.now 1 seat.old seat.new }
+    ensures joins { seat.new.ended ≡ numbers other ++ seat.old.ended }
+{
+    shared.join(seat, other);
+}
+
 /// Takes a job apart that wasn't started, and joins its seat, which has seen what the own one has
 /// seen.
 fn take_back<L, S, C>(
@@ -123,7 +136,8 @@ fn take_back<L, S, C>(
     requires fresh { HasFreshSeat shared.now (node_of job) (seat_of job) }
     requires front { (seat_of job).front ≡ seat.old.front }
     ensures input { result ≡ input_of job }
-    ensures back { TakesBack shared.now seat.old seat.new }
+    ensures back { TakesBack shared.now 1 seat.old seat.new }
+    ensures joins { seat.new.ended ≡ numbers (seat_of job) ++ seat.old.ended }
 {
     match job.into_parts() {
         JobParts::Conn {
