@@ -1,3 +1,4 @@
+mod LineParts
 mod Duties
 mod Listed
 mod Playing
@@ -5,6 +6,8 @@ mod Telling
 mod Sending
 mod Keeping
 mod Verified
+mod Lacking
+mod VerdictsTold
 mod Counting
 mod Tasks
 pub mod OfClient

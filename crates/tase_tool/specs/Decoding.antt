@@ -2,6 +2,8 @@
 use Rattle.std.specs.Prelude.{ℕ, List, [], ◌∷◌, ◌++◌, length, Result, Ok, Err, codes, decimal}
 use Rattle.commands.specs.declared.io.status.Status.TheVariants.{Done, Input}
 use Rattle.commands.specs.Io.Saying.{Said, prints}
+use Rattle.commands.specs.Io.Plans.{Plan, says, by_value}
+use Rattle.capture_text.specs.Captures.{capture_in}
 use Rattle.ber_values.specs.declared.fault.BerFault.{BerFault}
 use Rattle.ber_values.specs.Reading.{Taken}
 use Rattle.mms_services.specs.declared.pdu.MmsPdu.{MmsPdu}
@@ -24,3 +26,7 @@ read_said len (Err fault) = prints Input (pdu_fault_line fault.place (why_name f
 -- the PDU that all octets are, or the first rule that they break
 abbrev pub pdu_said : List ℕ → Said
 pdu_said octets = read_said (length octets) (pdu.reading 0 octets)
+
+-- what is said of the octets of a text, which is a capture
+abbrev pub pdu_text : List ℕ → Plan
+pdu_text octets = by_value (codes "in") (λ pdu. says (pdu_said pdu)) (capture_in octets)

@@ -1,3 +1,4 @@
+pub mod Lines
 pub mod Decoding
 pub mod Listing
 pub mod Saying
@@ -6,6 +7,7 @@ pub mod Playing
 pub mod Kept
 pub mod Verifying
 pub mod Loading
+pub mod Lacking
 pub mod Running
 pub mod Client
 pub mod Server

@@ -17,7 +17,7 @@ use Rattle.commands.specs.Load.Summaries.{summary_text}
 use Rattle.commands.specs.Words.Words.{ReplayOptions, limit_of, Task, replays, lists_stream}
 use Rattle.commands.specs.Words.Words.{no_options, decodes_pdu, verifies, loads}
 use Rattle.commands.specs.Words.Words.{serves, plays_client}
-use Rattle.tase_tool.specs.Decoding.{pdu_said}
+use Rattle.tase_tool.specs.Decoding.{pdu_text}
 use Rattle.tase_tool.specs.Listing.{stream_said}
 use Rattle.commands.specs.Files.Tables.{tables_in}
 use Rattle.tase_tool.specs.Verifying.{verify_plan}
@@ -95,7 +95,7 @@ load_said rounds = load_over rounds (tables_in load_tables)
 
 -- the PDU that a capture holds is told
 abbrev pub decode_plan : List ℕ → Plan
-decode_plan name = reads_value (capture_asked name) capture_in (λ octets. says (pdu_said octets))
+decode_plan name = reads (capture_asked name) pdu_text
 
 -- the messages of the stream that a capture holds are listed
 abbrev pub list_plan : List ℕ → Plan

@@ -1,13 +1,16 @@
 -- What `verify` says: what an association was sent, held against its history and what its link
 -- gave.
-use Rattle.std.specs.Prelude.{◌≡◌, ℕ, Bool, List, [], ◌∷◌, ◌++◌, Option, Some, None, option_map}
-use Rattle.std.specs.Prelude.{Result, Ok, Err, Vec, codes, decimal}
+use Rattle.std.specs.Prelude.{◌≡◌, ◌⊎◌, ℕ, Bool, List, [], ◌∷◌, ◌++◌, Option, Some, None}
+use Rattle.std.specs.Prelude.{option_map, Result, Ok, Err, Vec, codes, decimal}
 use Rattle.std.specs.declared.alloc.Global.{Global}
-use Rattle.commands.specs.declared.io.status.Status.TheVariants.{Done, Differs}
+use Rattle.outside.specs.Sink.{SinkTold}
+use Rattle.commands.specs.declared.io.status.Status.{Status}
+use Rattle.commands.specs.declared.io.status.Status.TheVariants.{Done, Differs, Outside}
 use Rattle.commands.specs.declared.io.input.InputEnd.{InputEnd}
 use Rattle.commands.specs.declared.io.input.TheConstants.{TEXT_LIMIT, JOURNAL_LIMIT}
 use Rattle.commands.specs.Io.Saying.{Said, prints}
-use Rattle.commands.specs.Io.Plans.{Asked, Plan, says, reads_value}
+use Rattle.commands.specs.Io.Runs.{TellsSaid}
+use Rattle.commands.specs.Io.Plans.{Asked, Plan, says, reads, by_value, reads_value}
 use Rattle.plain_text.specs.Octets.{hex_text}
 use Rattle.capture_text.specs.Captures.{capture_in}
 use Rattle.bilateral.specs.Rows.{CentreRows, place_of_peer}
@@ -20,6 +23,7 @@ use Rattle.tase_verify.specs.declared.link_text.LinkText.{LinkText}
 use Rattle.tase_verify.specs.JournalIn.{journal_in}
 use Rattle.tase_verify.specs.LinkText.{given_in}
 use Rattle.tase_verify.specs.Verifying.{journal_setup, answered_for, verdict_for}
+use Rattle.tase_tool.specs.Lines.{named_line, stray_line}
 use Rattle.tase_tool.specs.declared.verifying.Meant.{Meant}
 use Rattle.commands.specs.Words.Words.{Question}
 use Rattle.commands.specs.Files.Tables.{tables_in}
@@ -31,13 +35,18 @@ octet_word (Some octet) = hex_text (octet ∷ [])
 
 -- `differs PLACE GOT WANT`
 abbrev pub differs_line : ℕ → Option ℕ → Option ℕ → List ℕ
-differs_line place got want =
-    codes "differs " ++ decimal place ++ codes " " ++ octet_word got ++ codes " " ++ octet_word want
-    ++ 10 ∷ []
+differs_line place got want = named_line (codes "differs")
+    (decimal place ++ 32 ∷ [] ++ octet_word got ++ 32 ∷ [] ++ octet_word want)
 
--- `stray N`
-abbrev pub stray_line : ℕ → List ℕ
-stray_line number = codes "stray " ++ decimal number ++ 10 ∷ []
+-- ` GOT WANT` and the line's end
+abbrev pub octets_line : Option ℕ → Option ℕ → List ℕ
+octets_line got want = named_line [] (octet_word got ++ 32 ∷ [] ++ octet_word want)
+
+-- a line on a difference; it takes no memory
+abbrev pub TellsDifference : List ℕ → SinkTold → SinkTold → Status → Type 0
+TellsDifference text before after status =
+    TellsSaid (prints Differs text) before after status
+    × ((status ≡ Differs) ⊎ (status ≡ Outside))
 
 -- what is said of a verdict
 abbrev pub verdict_said : Verdict → Said
@@ -55,11 +64,20 @@ key_meant rows question =
 abbrev pub input_asked : List ℕ → ℕ → List ℕ → Asked
 input_asked called limit name = record { file = name; called = called; limit = limit }
 
+-- what the octets of a capture of what the association was sent are told to be, which are judged so
+abbrev pub judged_text : (List ℕ → Verdict) → List ℕ → Plan
+judged_text judged octets =
+    by_value (codes "out") (λ sent. says (verdict_said (judged sent))) (capture_in octets)
+
+-- that capture is read, and judged
+abbrev pub judged_plan : List ℕ → (List ℕ → Verdict) → Plan
+judged_plan name judged =
+    reads (input_asked (codes "out") TEXT_LIMIT name) (judged_text judged)
+
 -- what the association was sent is read, and the verdict on it is told
 abbrev pub sent_plan : Question → CentreRows → Option Key → Past → List ℕ × Bool → Plan
 sent_plan question rows key past given =
-    reads_value (input_asked (codes "out") TEXT_LIMIT question.sent) capture_in
-    (λ sent. says (verdict_said (verdict_for rows past key given.0 given.1 sent)))
+    judged_plan question.sent (verdict_for rows past key given.0 given.1)
 
 -- what its link gave is read, and then what it was sent
 abbrev pub given_plan : Question → CentreRows → Option Key → Past → Plan

@@ -1,41 +1,32 @@
 //! The captures of a command.
-ghost use Rattle.std.specs.Prelude.{◌≡◌};
-ghost use Rattle.commands.specs.declared.io.input.TheConstants.{TEXT_LIMIT};
-ghost use Rattle.commands.specs.Io.Inputs.{value_as};
-ghost use Rattle.commands.specs.Io.Plans.{IsSpelled, ReadsValue, octets_of};
-ghost use Rattle.capture_text.specs.Captures.{capture_in};
+ghost use Rattle.std.specs.Prelude.{◌≡◌, ◌⊎◌, true};
+ghost use Rattle.commands.specs.declared.io.input.Refusal.TheVariants.{BadLine};
+ghost use Rattle.commands.specs.Io.Saying.{duty_to_say};
+ghost use Rattle.commands.specs.Io.Runs.{IsRun};
+ghost use Rattle.commands.specs.Io.Plans.{refused_said};
 
-use capture_text::read_capture;
-use commands::io::{InputEnd, TEXT_LIMIT, note_unread, read_input, value_or_end};
+use commands::io::{Refusal, RefusedLine, Status, note_line, refuse};
 use outside::names::Outside;
 use std::alloc::Global;
 
-// The octets of a capture, or why there are none. An operator is told of its first bad line.
-fn octets_from<O: Outside>(
-    alloc: Global,
-    outside: &O,
-    input: &str,
-    text: &[u8],
-) -> Result<Vec<u8>, InputEnd>
-    ensures { IsSpelled (value_as octets_of result) (capture_in text.now) }
-{
-    let read = value_or_end(read_capture(alloc, text));
-    note_unread(alloc, outside, input, text, &read);
-    read
-}
-
-/// Reads the octets of the capture under a name. `input` names it where it is refused.
-pub(crate) fn read_octets<O: Outside>(
+/// Ends a command whose capture has a bad line, with this number: the refusal is printed, and an
+/// operator is told of the line. `input` names the capture.
+pub(crate) fn refuse_line<O: Outside>(
     alloc: Global,
     outside: &mut O,
-    name: &str,
     input: &str,
-) -> Result<Vec<u8>, InputEnd>
-    ensures { ReadsValue capture_in name.now TEXT_LIMIT (value_as octets_of result)
-        (O.told outside.old) (O.told outside.new) }
+    text: &[u8],
+    number: u64,
+) -> Status
+    ensures runs { IsRun (duty_to_say true (refused_said input.now (BadLine number)))
+        (O.told outside.old) (O.told outside.new) result }
+    ensures answers { (result ≡ Status.Input) ⊎ (result ≡ Status.Outside) }
 {
-    match read_input(alloc, outside, name, TEXT_LIMIT) {
-        Ok(text) => octets_from(alloc, outside, input, &text),
-        Err(end) => Err(end),
-    }
+    let line = RefusedLine {
+        input,
+        text,
+        number,
+    };
+    note_line(alloc, outside, line);
+    refuse(outside, input, Refusal::BadLine(number))
 }

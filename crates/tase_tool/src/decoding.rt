@@ -1,17 +1,19 @@
 //! The command `decode --pdu`: which PDU a capture holds.
-ghost use Rattle.std.specs.Prelude.{◌≡◌, IfOk, string_bytes, true, codes};
-ghost use Rattle.commands.specs.Io.Inputs.{value_as};
+ghost use Rattle.std.specs.Prelude.{◌≡◌, IfOk, IsOk, string_bytes, true, codes};
 ghost use Rattle.commands.specs.Io.Saying.{prints, duty_to_say};
 ghost use Rattle.commands.specs.Io.Runs.{IsRun};
-ghost use Rattle.commands.specs.Io.Plans.{says, RunsPlan, EndsPlan, octets_of};
-ghost use Rattle.tase_tool.specs.Decoding.{pdu_said};
+ghost use Rattle.commands.specs.Io.Plans.{RunsPlan, EndsPlan, octets_of};
+ghost use Rattle.capture_text.specs.Captures.{capture_in};
+ghost use Rattle.tase_tool.specs.Decoding.{pdu_said, pdu_text};
 ghost use Rattle.tase_tool.specs.Decoding as own;
+ghost use Rattle.tase_tool.specs.Lacking.{LacksBehind, LacksCapture};
 ghost use Rattle.tase_tool.specs.Saying.{decode_plan};
 ghost use Rattle.stack_assoc.specs.Listing.Names.{message_name_text, pdu_name, why_name};
 
-use crate::captures::read_octets;
+use crate::captures::refuse_line;
 use ber_values::Why;
-use commands::io::{InputEnd, Status, end_unread, print};
+use capture_text::{Pieces, join_pieces, read_pieces};
+use commands::io::{InputEnd, Status, TEXT_LIMIT, end_unread, print, read_input};
 use mms_services::{MmsPdu, read_pdu};
 use outside::names::Outside;
 use stack_assoc::listing::{name_of_pdu, why_name};
@@ -19,25 +21,51 @@ use std::alloc::{AllocError, Global};
 
 /// Reads a capture, and prints which PDU its octets are, or the first rule that they break.
 pub(crate) fn run_decode<O: Outside>(alloc: Global, outside: &mut O, capture: &str) -> Status
-    ensures { RunsPlan (decode_plan capture.now)
+    ensures runs { RunsPlan (decode_plan capture.now)
         (O.told outside.old) (O.told outside.new) result }
+    ensures memory { result ≡ Status.Memory
+        → LacksCapture capture.now (O.told outside.old) (O.told outside.new) }
 {
-    let read = read_octets(alloc, outside, capture, "in");
-    decode_octets(alloc, outside, read)
+    let read = read_input(alloc, outside, capture, TEXT_LIMIT);
+    decode_read(alloc, outside, read)
 }
 
-// Tells the PDU that the octets of a capture are, which was read to this.
-fn decode_octets<O: Outside>(
+// Tells the PDU that a capture holds, which was read to this.
+fn decode_read<O: Outside>(
     alloc: Global,
     outside: &mut O,
-    octets: Result<Vec<u8>, InputEnd>,
+    read: Result<Vec<u8>, InputEnd>,
 ) -> Status
-    ensures { EndsPlan (codes "in") (λ octets. says (pdu_said octets)) (value_as octets_of octets)
+    ensures runs { EndsPlan (codes "in") (λ text. pdu_text (octets_of text)) read
+        (O.told outside.old) (O.told outside.new) result }
+    ensures memory { result ≡ Status.Memory
+        → LacksBehind read (O.told outside.old) (O.told outside.new) }
+{
+    match read {
+        Ok(text) => decode_capture(alloc, outside, &text),
+        Err(end) => end_unread(outside, "in", end),
+    }
+}
+
+// Tells the PDU that a capture holds. A bad line is told, whether memory is left or not.
+fn decode_capture<O: Outside>(alloc: Global, outside: &mut O, text: &[u8]) -> Status
+    ensures runs { RunsPlan (pdu_text text.now) (O.told outside.old) (O.told outside.new) result }
+    ensures memory { result ≡ Status.Memory → IsOk (capture_in text.now) }
+{
+    match read_pieces(text) {
+        Ok(pieces) => decode_pieces(alloc, outside, pieces),
+        Err(line) => refuse_line(alloc, outside, "in", text, line),
+    }
+}
+
+// Tells the PDU that the octets of a capture are.
+fn decode_pieces<O: Outside>(alloc: Global, outside: &mut O, pieces: Pieces<'_>) -> Status
+    ensures { IsRun (duty_to_say true (pdu_said pieces.entry))
         (O.told outside.old) (O.told outside.new) result }
 {
-    match octets {
+    match join_pieces(alloc, pieces) {
         Ok(octets) => decode_pdu(alloc, outside, &octets),
-        Err(end) => end_unread(outside, "in", end),
+        Err(AllocError) => Status::Memory,
     }
 }
 

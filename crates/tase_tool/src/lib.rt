@@ -5,10 +5,12 @@
 mod captures;
 pub mod client;
 mod decoding;
+mod lines;
 mod listing;
 mod loading;
 mod running;
 pub mod server;
+mod verdicts;
 mod verifying;
 
 pub use running::{Waiting, run, run_texts};

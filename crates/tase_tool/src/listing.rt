@@ -1,5 +1,5 @@
 //! The command `decode`: the messages of a captured stream.
-ghost use Rattle.std.specs.Prelude.{◌≡◌, ◌≤◌, ◌⊎◌, [], length, true, codes, IsErr};
+ghost use Rattle.std.specs.Prelude.{◌≡◌, ◌≤◌, [], length, true, codes, IsOk};
 ghost use Rattle.commands.specs.Io.Saying.{duty_to_say};
 ghost use Rattle.commands.specs.Io.Runs.{IsRun, TellsSaid};
 ghost use Rattle.commands.specs.Io.Plans.{says, RunsPlan, EndsPlan, octets_of};
@@ -8,13 +8,12 @@ ghost use Rattle.tpkt_cotp.specs.declared.limits.TheConstants.{PIECE_LIMIT};
 ghost use Rattle.stack_assoc.specs.Listing.Listings.{listing_of, yet_listed};
 ghost use Rattle.tase_tool.specs.Listing.{stream_said, listing_said, ListsOn};
 ghost use Rattle.tase_tool.specs.Listing as own;
+ghost use Rattle.tase_tool.specs.Lacking.{LacksBehind, LacksCapture};
 ghost use Rattle.tase_tool.specs.Saying.{list_plan};
 
+use crate::captures::refuse_line;
 use capture_text::{Pieces, read_pieces};
-use commands::io::{
-    InputEnd, OUTPUT, Refusal, RefusedLine, Status, TEXT_LIMIT, end_unread, note_line, read_input,
-    refuse,
-};
+use commands::io::{InputEnd, OUTPUT, Status, TEXT_LIMIT, end_unread, read_input};
 use outside::names::Outside;
 use outside::{BufferedSink, Sink, SinkFailed, write_all};
 use stack_assoc::listing::Lister;
@@ -23,8 +22,10 @@ use tpkt_cotp::PIECE_LIMIT;
 
 /// Reads a capture, and lists the messages of the stream that its octets are.
 pub(crate) fn run_listing<O: Outside>(alloc: Global, outside: &mut O, capture: &str) -> Status
-    ensures { RunsPlan (list_plan capture.now)
+    ensures runs { RunsPlan (list_plan capture.now)
         (O.told outside.old) (O.told outside.new) result }
+    ensures memory { result ≡ Status.Memory
+        → LacksCapture capture.now (O.told outside.old) (O.told outside.new) }
 {
     let read = read_input(alloc, outside, capture, TEXT_LIMIT);
     list_read(alloc, outside, read)
@@ -32,8 +33,11 @@ pub(crate) fn run_listing<O: Outside>(alloc: Global, outside: &mut O, capture: &
 
 // Lists the stream of a capture that was read to this.
 fn list_read<O: Outside>(alloc: Global, outside: &mut O, read: Result<Vec<u8>, InputEnd>) -> Status
-    ensures { EndsPlan (codes "in") (λ text. says (stream_said (capture_in (octets_of text)))) read
+    ensures runs { EndsPlan (codes "in")
+        (λ text. says (stream_said (capture_in (octets_of text)))) read
         (O.told outside.old) (O.told outside.new) result }
+    ensures memory { result ≡ Status.Memory
+        → LacksBehind read (O.told outside.old) (O.told outside.new) }
 {
     match read {
         Ok(text) => list_capture(alloc, outside, &text),
@@ -45,26 +49,12 @@ fn list_read<O: Outside>(alloc: Global, outside: &mut O, read: Result<Vec<u8>, I
 fn list_capture<O: Outside>(alloc: Global, outside: &mut O, text: &[u8]) -> Status
     ensures runs { IsRun (duty_to_say true (stream_said (capture_in text.now)))
         (O.told outside.old) (O.told outside.new) result }
-    ensures refused { IsErr (capture_in text.now)
-        → (result ≡ Status.Input) ⊎ (result ≡ Status.Outside) }
+    ensures memory { result ≡ Status.Memory → IsOk (capture_in text.now) }
 {
     match read_pieces(text) {
         Ok(pieces) => list_on_output(alloc, outside, pieces),
-        Err(line) => {
-            note_bad_line(alloc, outside, text, line);
-            refuse(outside, "in", Refusal::BadLine(line))
-        }
+        Err(line) => refuse_line(alloc, outside, "in", text, line),
     }
-}
-
-// Lets an operator know of a line of a capture that can't be taken.
-fn note_bad_line<O: Outside>(alloc: Global, outside: &O, text: &[u8], number: u64) {
-    let line = RefusedLine {
-        input: "in",
-        text,
-        number,
-    };
-    note_line(alloc, outside, line);
 }
 
 // Opens standard output, lists a stream there, and closes it.

@@ -1,38 +1,39 @@
 //! The command `verify`: what an association was sent, held against its history.
-ghost use Rattle.std.specs.Prelude.{◌≡◌, ◌++◌, OnOk, IfOk, List, ℕ, true, codes};
+ghost use Rattle.std.specs.Prelude.{◌≡◌, ◌≢◌, [], ◌∷◌, IfOk, List, ℕ, Err, codes};
 ghost use Rattle.std.specs.Prelude.{Result as AnyResult};
 ghost use Rattle.std.specs.Arc.{arc_value};
 ghost use Rattle.commands.specs.declared.io.input.InputEnd.{InputEnd as AnyEnd};
 ghost use Rattle.commands.specs.declared.io.input.TheConstants.{TEXT_LIMIT, JOURNAL_LIMIT};
-ghost use Rattle.commands.specs.declared.io.status.Status.TheVariants.{Differs};
 ghost use Rattle.commands.specs.Io.Inputs.{value_as};
-ghost use Rattle.commands.specs.Io.Saying.{prints, duty_to_say};
-ghost use Rattle.commands.specs.Io.Runs.{IsRun};
-ghost use Rattle.commands.specs.Io.Plans.{says, RunsPlan, EndsPlan, IsSpelled, ReadsValue, octets_of};
+ghost use Rattle.commands.specs.Io.Plans.{RunsPlan, EndsPlan, IsSpelled, ReadsValue, octets_of};
 ghost use Rattle.tase_verify.specs.declared.association.verdict.Verdict.{Verdict as AnyVerdict};
 ghost use Rattle.tase_views.specs.History.{Past};
+ghost use Rattle.tase_verify.specs.Association.Verdicts.{Judges};
 ghost use Rattle.tase_verify.specs.JournalIn.{journal_in};
 ghost use Rattle.tase_verify.specs.LinkText.{given_in};
-ghost use Rattle.tase_verify.specs.Verifying.{journal_setup, verdict_for};
+ghost use Rattle.tase_verify.specs.Verifying.{journal_setup};
 ghost use Rattle.commands.specs.Words.Words.{question_seen};
-ghost use Rattle.tase_tool.specs.Verifying.{verdict_said, link_given, AreAnswers, IsMeant};
-ghost use Rattle.tase_tool.specs.Verifying.{sent_plan, given_plan, journal_plan, verify_plan};
+ghost use Rattle.tase_tool.specs.Lacking.{LacksInput, LacksLast, LacksCheck};
+ghost use Rattle.tase_tool.specs.Lacking.{LacksBehindTables, LacksBehindJournal, LacksBehindGiven};
+ghost use Rattle.tase_tool.specs.Verifying.{link_given, AreAnswers, IsMeant};
+ghost use Rattle.tase_tool.specs.Verifying.{judged_text, judged_plan, sent_plan, given_plan};
+ghost use Rattle.tase_tool.specs.Verifying.{journal_plan, verify_plan};
 ghost use Rattle.tase_tool.specs.Verifying as own;
 
-use crate::captures::read_octets;
+use crate::captures::refuse_line;
+use crate::verdicts::tell_verdict;
 use bilateral::Centre;
+use capture_text::read_pieces;
 use commands::files::read_tables;
 use commands::io::{
-    InputEnd, JOURNAL_LIMIT, Status, TEXT_LIMIT, end_unread, note_unread, print, read_input,
-    value_or_end,
+    InputEnd, JOURNAL_LIMIT, Status, TEXT_LIMIT, end_unread, note_unread, read_input, value_or_end,
 };
 use commands::words::Question;
 use outside::names::Outside;
-use plain_text::{push_decimal, push_hex};
 use sbo_device::Key;
 use std::alloc::{AllocError, Global};
 use std::sync::Arc;
-use tase_verify::association::{AnsweredEvent, Verdict};
+use tase_verify::association::{Account, AnsweredEvent};
 use tase_verify::{LinkText, read_journal, read_link_text, verify_association};
 
 /// An association, as a journal tells it.
@@ -52,8 +53,10 @@ pub(crate) fn run_verify<O: Outside>(
     outside: &mut O,
     question: Question<'_>,
 ) -> Status
-    ensures { RunsPlan (verify_plan (question_seen question.entry))
+    ensures runs { RunsPlan (verify_plan (question_seen question.entry))
         (O.told outside.old) (O.told outside.new) result }
+    ensures memory { result ≡ Status.Memory → LacksCheck (question_seen question.entry)
+        (O.told outside.old) (O.told outside.new) }
 {
     let read = read_tables(alloc, outside, question.tables);
     verify_over(alloc, outside, question, read)
@@ -66,8 +69,10 @@ fn verify_over<O: Outside>(
     question: Question<'_>,
     read: Result<Centre, InputEnd>,
 ) -> Status
-    ensures { EndsPlan (codes "tables") (journal_plan (question_seen question.entry)) read
+    ensures runs { EndsPlan (codes "tables") (journal_plan (question_seen question.entry)) read
         (O.told outside.old) (O.told outside.new) result }
+    ensures memory { result ≡ Status.Memory → LacksBehindTables (question_seen question.entry)
+        (O.told outside.old) (O.told outside.new) }
 {
     match read {
         Ok(centre) => share_centre(alloc, outside, question, centre),
@@ -88,8 +93,10 @@ fn share_centre<O: Outside>(
     question: Question<'_>,
     centre: Centre,
 ) -> Status
-    ensures { RunsPlan (journal_plan (question_seen question.entry) centre)
+    ensures runs { RunsPlan (journal_plan (question_seen question.entry) centre)
         (O.told outside.old) (O.told outside.new) result }
+    ensures memory { result ≡ Status.Memory → LacksBehindTables (question_seen question.entry)
+        (O.told outside.old) (O.told outside.new) }
 {
     match shared(alloc, centre) {
         Ok(centre) => verify_centre(alloc, outside, question, &centre),
@@ -115,8 +122,10 @@ fn verify_centre<O: Outside>(
     question: Question<'_>,
     centre: &Arc<Centre>,
 ) -> Status
-    ensures { RunsPlan (journal_plan (question_seen question.entry) (arc_value centre.now))
+    ensures runs { RunsPlan (journal_plan (question_seen question.entry) (arc_value centre.now))
         (O.told outside.old) (O.told outside.new) result }
+    ensures memory { result ≡ Status.Memory → LacksBehindTables (question_seen question.entry)
+        (O.told outside.old) (O.told outside.new) }
 {
     let tables: &Centre = centre;
     let key = key_meant(tables, question);
@@ -169,9 +178,11 @@ fn verify_answered<O: Outside>(
     key: Option<Key>,
     read: Result<Vec<AnsweredEvent>, InputEnd>,
 ) -> Status
-    ensures { (was : AnyResult Past AnyEnd) → AreAnswers centre.now key was read
+    ensures runs { (was : AnyResult Past AnyEnd) → AreAnswers centre.now key was read
         → EndsPlan (codes "journal") (given_plan (question_seen question.entry) centre.now key) was
         (O.told outside.old) (O.told outside.new) result }
+    ensures memory { result ≡ Status.Memory → LacksBehindJournal (question_seen question.entry)
+        (O.told outside.old) (O.told outside.new) }
 {
     match read {
         Ok(events) => {
@@ -194,10 +205,12 @@ fn verify_meant<O: Outside>(
     question: Question<'_>,
     meant: Meant<'_>,
 ) -> Status
-    ensures { (past : Past) → IsMeant meant.entry past
+    ensures runs { (past : Past) → IsMeant meant.entry past
         → RunsPlan (given_plan (question_seen question.entry) meant.entry.centre.now
         meant.entry.key past)
         (O.told outside.old) (O.told outside.new) result }
+    ensures memory { result ≡ Status.Memory → LacksBehindJournal (question_seen question.entry)
+        (O.told outside.old) (O.told outside.new) }
 {
     let read = read_link(alloc, outside, question.given);
     verify_given(alloc, outside, question, meant, read)
@@ -231,9 +244,11 @@ fn verify_given<O: Outside>(
     meant: Meant<'_>,
     read: Result<LinkText, InputEnd>,
 ) -> Status
-    ensures { (past : Past) → IsMeant meant.entry past → EndsPlan (codes "in")
+    ensures runs { (past : Past) → IsMeant meant.entry past → EndsPlan (codes "in")
         (sent_plan (question_seen question.entry) meant.entry.centre.now meant.entry.key past)
         (value_as link_given read) (O.told outside.old) (O.told outside.new) result }
+    ensures memory { result ≡ Status.Memory → LacksBehindGiven (question_seen question.entry)
+        (O.told outside.old) (O.told outside.new) }
 {
     match read {
         Ok(given) => verify_link(alloc, outside, question, meant, &given),
@@ -241,7 +256,7 @@ fn verify_given<O: Outside>(
     }
 }
 
-// Reads what an association was sent, and tells the verdict on it.
+// Accounts for an association by what its link gave, and judges by that what it was sent.
 fn verify_link<O: Outside>(
     alloc: Global,
     outside: &mut O,
@@ -249,135 +264,80 @@ fn verify_link<O: Outside>(
     meant: Meant<'_>,
     given: &LinkText,
 ) -> Status
-    ensures { (past : Past) → IsMeant meant.entry past
+    ensures runs { (past : Past) → IsMeant meant.entry past
         → RunsPlan (sent_plan (question_seen question.entry) meant.entry.centre.now
         meant.entry.key past (link_given given.now))
         (O.told outside.old) (O.told outside.new) result }
-{
-    let read = read_octets(alloc, outside, question.sent, "out");
-    verify_sent(alloc, outside, meant, given, read)
-}
-
-// Tells the verdict on what an association was sent, which was read to this.
-fn verify_sent<O: Outside>(
-    alloc: Global,
-    outside: &mut O,
-    meant: Meant<'_>,
-    given: &LinkText,
-    read: Result<Vec<u8>, InputEnd>,
-) -> Status
-    ensures { (past : Past) → IsMeant meant.entry past → EndsPlan (codes "out") (λ sent.
-        says (verdict_said (verdict_for meant.entry.centre.now past meant.entry.key
-        given.now.octets.items given.now.ended sent))) (value_as octets_of read)
-        (O.told outside.old) (O.told outside.new) result }
-{
-    match read {
-        Ok(sent) => judge(alloc, outside, meant, given, sent.as_slice()),
-        Err(end) => end_unread(outside, "out", end),
-    }
-}
-
-// Tells the verdict on what an association was sent.
-fn judge<O: Outside>(
-    alloc: Global,
-    outside: &mut O,
-    meant: Meant<'_>,
-    given: &LinkText,
-    sent: &[u8],
-) -> Status
-    ensures { (past : Past) → IsMeant meant.entry past → IsRun (duty_to_say true
-        (verdict_said (verdict_for meant.entry.centre.now past meant.entry.key
-        given.now.octets.items given.now.ended sent.now)))
-        (O.told outside.old) (O.told outside.new) result }
+    ensures memory { result ≡ Status.Memory → LacksBehindGiven (question_seen question.entry)
+        (O.told outside.old) (O.told outside.new) }
 {
     let Meant {
         centre,
         key,
         answered,
     } = meant;
-    let verdict = verify_association(alloc, centre, key, answered, given, sent);
-    tell_verdict(alloc, outside, verdict)
+    let account = verify_association(alloc, centre, key, answered, given);
+    verify_sent(alloc, outside, question.sent, account)
 }
 
-// Tells a verdict, where there is memory for it.
-fn tell_verdict<O: Outside>(
+// Judges what an association was sent, which is accounted for so. All that this takes memory for is
+// there before its capture is opened.
+fn verify_sent<O: Outside>(
     alloc: Global,
     outside: &mut O,
-    verdict: Result<Verdict, AllocError>,
+    name: &str,
+    account: Result<Account, AllocError>,
 ) -> Status
-    ensures { (meant : AnyVerdict) → IfOk verdict (λ verdict. verdict ≡ meant)
-        → IsRun (duty_to_say true (verdict_said meant)) (O.told outside.old) (O.told outside.new)
-        result }
+    ensures runs { (judged : List ℕ → AnyVerdict) → IfOk account (Judges judged)
+        → RunsPlan (judged_plan name.now judged) (O.told outside.old) (O.told outside.new) result }
+    ensures memory { result ≡ Status.Memory → LacksLast [] name.now
+        (O.told outside.old) (O.told outside.new) }
 {
-    match verdict {
-        Ok(verdict) => tell(alloc, outside, verdict),
+    match account {
+        Ok(account) => judge_file(alloc, outside, name, &account),
         Err(AllocError) => Status::Memory,
     }
 }
 
-// Tells a verdict.
-fn tell<O: Outside>(alloc: Global, outside: &mut O, verdict: Verdict) -> Status
-    ensures { IsRun (duty_to_say true (verdict_said verdict))
-        (O.told outside.old) (O.told outside.new) result }
+// Reads what an association was sent from the capture under a name, and judges it by an account.
+fn judge_file<O: Outside>(alloc: Global, outside: &mut O, name: &str, account: &Account) -> Status
+    ensures runs { (judged : List ℕ → AnyVerdict) → Judges judged account.now
+        → RunsPlan (judged_plan name.now judged) (O.told outside.old) (O.told outside.new) result }
+    ensures memory { result ≡ Status.Memory
+        → LacksInput name.now (O.told outside.old) (O.told outside.new) }
 {
-    match verdict {
-        Verdict::Equal => print(outside, Status::Done, b"equal\n"),
-        Verdict::Differs { place, got, want } => {
-            tell_line(outside, differs_line(alloc, place, got, want))
-        }
-        Verdict::Stray { number } => tell_line(outside, stray_line(alloc, number)),
-    }
+    let read = read_input(alloc, outside, name, TEXT_LIMIT);
+    judge_read(alloc, outside, account, read)
 }
 
-// Tells the line of a difference, where there is memory for it.
-fn tell_line<O: Outside>(outside: &mut O, line: Result<Vec<u8>, AllocError>) -> Status
-    ensures { (text : List ℕ) → IfOk line (λ line. line.items ≡ text)
-        → IsRun (duty_to_say true (prints Differs text)) (O.told outside.old) (O.told outside.new)
-        result }
-{
-    match line {
-        Ok(line) => print(outside, Status::Differs, line.as_slice()),
-        Err(AllocError) => Status::Memory,
-    }
-}
-
-// `differs PLACE GOT WANT`.
-fn differs_line(
+// Judges a capture that was read to this.
+fn judge_read<O: Outside>(
     alloc: Global,
-    place: u64,
-    got: Option<u8>,
-    want: Option<u8>,
-) -> Result<Vec<u8>, AllocError>
-    ensures { IfOk result (λ line. line.items ≡ own.differs_line place got want) }
+    outside: &mut O,
+    account: &Account,
+    read: Result<Vec<u8>, InputEnd>,
+) -> Status
+    ensures runs { (judged : List ℕ → AnyVerdict) → Judges judged account.now
+        → EndsPlan (codes "out") (λ text. judged_text judged (octets_of text)) read
+        (O.told outside.old) (O.told outside.new) result }
+    ensures memory { result ≡ Status.Memory
+        → (read ≡ Err InputEnd.Memory) × (O.told outside.new ≡ O.told outside.old) }
 {
-    let mut line = Vec::new(alloc);
-    line.extend_from_slice(b"differs ")?;
-    push_decimal(&mut line, place)?;
-    line.push(b' ')?;
-    push_octet(&mut line, got)?;
-    line.push(b' ')?;
-    push_octet(&mut line, want)?;
-    line.push(b'\n')?;
-    Ok(line)
+    match read {
+        Ok(text) => judge_text(alloc, outside, account, &text),
+        Err(end) => end_unread(outside, "out", end),
+    }
 }
 
-// `stray N`.
-fn stray_line(alloc: Global, number: u64) -> Result<Vec<u8>, AllocError>
-    ensures { IfOk result (λ line. line.items ≡ own.stray_line number) }
+// Judges the octets of a capture, and tells the verdict or its first bad line, whether memory is
+// left or not.
+fn judge_text<O: Outside>(alloc: Global, outside: &mut O, account: &Account, text: &[u8]) -> Status
+    ensures runs { (judged : List ℕ → AnyVerdict) → Judges judged account.now
+        → RunsPlan (judged_text judged text.now) (O.told outside.old) (O.told outside.new) result }
+    ensures memory { result ≢ Status.Memory }
 {
-    let mut line = Vec::new(alloc);
-    line.extend_from_slice(b"stray ")?;
-    push_decimal(&mut line, number)?;
-    line.push(b'\n')?;
-    Ok(line)
-}
-
-// Appends two hexadecimal digits of an octet, or `-` where there is none.
-fn push_octet(line: &mut Vec<u8>, octet: Option<u8>) -> Result<(), AllocError>
-    ensures { OnOk result (line.new.items ≡ line.old.items ++ own.octet_word octet) }
-{
-    match octet {
-        Some(octet) => push_hex(line, &[octet]),
-        None => Ok(line.push(b'-')?),
+    match read_pieces(text) {
+        Ok(pieces) => tell_verdict(outside, account.judge(pieces)),
+        Err(line) => refuse_line(alloc, outside, "out", text, line),
     }
 }

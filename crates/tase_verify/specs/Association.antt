@@ -7,3 +7,4 @@ pub mod Hearing
 pub mod Terms
 pub mod Spelled
 pub mod Accounts
+pub mod Accounting

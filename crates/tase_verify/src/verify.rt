@@ -1,29 +1,31 @@
-//! The verdict on one association.
-ghost use Rattle.std.specs.Prelude.{◌≡◌, IfOk};
+//! How an association is accounted for.
+ghost use Rattle.std.specs.Prelude.{◌≡◌, IfOk, IsErr, IsSome};
 ghost use Rattle.tase_views.specs.Setup.{Setup};
 ghost use Rattle.tase_views.specs.History.{Past};
+ghost use Rattle.tase_verify.specs.Association.Verdicts.{Judges};
 ghost use Rattle.tase_verify.specs.Verifying.{answered_for, verdict_for};
 
-use crate::association::{AnsweredEvent, Verdict, check_association};
+use crate::association::{Account, AnsweredEvent, check_association};
 use crate::link_text::LinkText;
 use bilateral::Centre;
 use sbo_device::Key;
 use std::alloc::{AllocError, Global};
 
-/// What the octets come to that an association was sent, whose events these are with their answers,
-/// as [`read_journal`](crate::read_journal) gives them, and whose link gave this. Where no
-/// association is meant, the first event is missing.
+/// How an association is accounted for, whose events these are with their answers, as
+/// [`read_journal`](crate::read_journal) gives them, and whose link gave this. What it was sent is
+/// judged by that, without memory. Where no association is meant, the first event is missing, which
+/// is told whether memory is left or not.
 pub fn verify_association(
     alloc: Global,
     centre: &Centre,
     key: Option<Key>,
     answered: &[AnsweredEvent],
     given: &LinkText,
-    sent: &[u8],
-) -> Result<Verdict, AllocError>
-    ensures { (setup : Setup) (past : Past) → setup.centre ≡ centre.now
-        → answered.now ≡ answered_for setup key past → IfOk result (λ verdict. verdict
-        ≡ verdict_for centre.now past key given.now.octets.items given.now.ended sent.now) }
+) -> Result<Account, AllocError>
+    ensures account { (setup : Setup) (past : Past) → setup.centre ≡ centre.now
+        → answered.now ≡ answered_for setup key past → IfOk result (Judges
+        (verdict_for centre.now past key given.now.octets.items given.now.ended)) }
+    ensures memory { IsErr result → IsSome key }
 {
     match key {
         Some(_) => {
@@ -33,9 +35,8 @@ pub fn verify_association(
                 answered,
                 given.octets.as_slice(),
                 given.ended,
-                sent,
             )
         }
-        None => Ok(Verdict::Stray { number: 0 }),
+        None => Ok(Account::Stray { number: 0 }),
     }
 }

@@ -32,7 +32,7 @@ use Rattle.tase_tool.specs.Server.Courses.{ServerRun, ServeCourse, unread, unsha
 use Rattle.tase_tool.specs.Server.Courses.{tables_read, work_of}
 use Rattle.tase_tool.specs.Server.Serving.{TellsEnd, KeepsNode, ClosesServer, RunsOpened}
 use Rattle.tase_tool.specs.Server.Serving.{ServesBehindTables, TakesCourse, IsServeStatus, HasFaultyName}
-use Rattle.tase_tool.specs.Server.Serving.{IsJobRefused, IsNodeKept, LacksMemoryAt, IsServedToEnd}
+use Rattle.tase_tool.specs.Server.Serving.{IsJobRefused, LacksMemoryAt, IsServedToEnd}
 use Rattle.tase_tool.specs.Server.Serving.{ServesCommand}
 use Rattle.tase_tool.proofs.OfServer.Counted.{all-rises, all-same}
 use Rattle.tase_tool.proofs.OfServer.Ends.{ended_done, kept_outside, kept_done, closed_outside}
@@ -83,7 +83,8 @@ runs_outside : (task : ServeTask) (m a : OutsideTold) (run : ServerRun) (status 
 runs_outside task m a run status runs same =
     let cause = closed_outside (IsUnstarted run.before run.after run.seats) run.before run.after m
     runs.closed runs.ended run.end runs.closes runs.serves.outside_cause in
-    elim (kept_outside task.journal run.node runs.ended status runs.closed a runs.keeps same) [
+    elim (kept_outside task.journal run.node run.written runs.ended status runs.closed a runs.keeps
+    same) [
       | inl before ↦ elim (cause before.0) [
         | inl risen ↦ inl (Rises-before m.faults runs.closed.faults a.faults risen before.1)
         | inr refused ↦ inr refused
@@ -189,34 +190,36 @@ unread_done {P} inputs.Outside m a ends_so =
 unread_done {P} inputs.Memory m a ends_so =
     absurd (let e : statuses.Done ≡ statuses.Memory = ends_so.0 in cc)
 
-runs_done : (name : List ℕ) (node : Option NodeState) (setup : NodeSetup)
-    (before after : ServerTold) (seats : Seats) (end : ServeEnd) (ended : Status)
-    (b m a : OutsideTold)
+runs_done : (name : List ℕ) (node : Option NodeState) (written : Option Status)
+    (setup : NodeSetup) (before after : ServerTold) (seats : Seats) (end : ServeEnd)
+    (ended : Status) (b m a : OutsideTold)
     → IsServed setup before after (option_map (λ n. turn_log n.history) node) seats end
     → ClosesServer b m (work_of after) end ended
-    → KeepsNode name node ended m a statuses.Done
-    → (end ≡ ends.Done) × IsNodeKept name node a
-runs_done name None setup before after seats end ended b m a serves closes keeps =
+    → KeepsNode name node written ended m a statuses.Done
+    → (end ≡ ends.Done) × (written ≡ Some statuses.Done)
+runs_done name None (Some written) setup before after seats end ended b m a serves closes keeps =
+    absurd keeps
+runs_done name None None setup before after seats end ended b m a serves closes keeps =
     let is_done : end ≡ ends.Done = ended_done end after.plant closes.plant
     (subst (λ s. TellsEnd end after.plant closes.plant s) (sym keeps.0) closes.tells) in
     let is_memory : end ≡ ends.Memory = serves.comes.memory in absurd cc
-runs_done name (Some node) setup before after seats end ended b m a serves closes keeps =
-    let both = kept_done name node ended m a keeps in (
+runs_done name (Some node) written setup before after seats end ended b m a serves closes keeps =
+    let both = kept_done name node written ended m a keeps in (
       ended_done end after.plant closes.plant
           (subst (λ s. TellsEnd end after.plant closes.plant s) both.0 closes.tells),
       both.1,
     )
 
 goes_done : (task : ServeTask) (course : ServeCourse) (m a : OutsideTold)
-    → ServesBehindTables task course m a statuses.Done → IsServedToEnd task course a
+    → ServesBehindTables task course m a statuses.Done → IsServedToEnd course
 goes_done task (unread end) m a goes = unread_done end m a goes
 goes_done task (unshared centre) m a goes =
     absurd (let e : statuses.Done ≡ statuses.Memory = goes.0 in cc)
 goes_done task (unopened centre) m a goes =
     absurd (let e : statuses.Done ≡ statuses.Outside = goes.0 in cc)
 goes_done task (served run) m a goes =
-    runs_done task.journal run.node _ run.before run.after run.seats run.end goes.runs.ended
-    goes.opened goes.runs.closed a goes.runs.serves goes.runs.closes goes.runs.keeps
+    runs_done task.journal run.node run.written _ run.before run.after run.seats run.end
+    goes.runs.ended goes.opened goes.runs.closed a goes.runs.serves goes.runs.closes goes.runs.keeps
 
 -- ---- want of memory
 
@@ -229,13 +232,13 @@ unread_memory inputs.Outside m a ends_so =
 unread_memory inputs.Memory m a ends_so = refl
 
 goes_memory : (task : ServeTask) (course : ServeCourse) (m a : OutsideTold)
-    → ServesBehindTables task course m a statuses.Memory → LacksMemoryAt task course a
+    → ServesBehindTables task course m a statuses.Memory → LacksMemoryAt course
 goes_memory task (unread end) m a goes = unread_memory end m a goes
 goes_memory task (unshared centre) m a goes = tt
 goes_memory task (unopened centre) m a goes =
     absurd (let e : statuses.Memory ≡ statuses.Outside = goes.0 in cc)
 goes_memory task (served run) m a goes =
-    kept_memory task.journal run.node run.end run.after.plant goes.runs.closes.plant
+    kept_memory task.journal run.node run.written run.end run.after.plant goes.runs.closes.plant
     goes.runs.ended goes.runs.closed a goes.runs.closes.tells goes.runs.keeps
 
 -- ---- the status
@@ -273,14 +276,16 @@ written_answers statuses.Outside ended file answers = tt
 written_answers statuses.Memory ended file answers = tt
 written_answers other ended file answers = absurd file
 
-kept_answers : (name : List ℕ) (node : Option NodeState) (ended status : Status)
-    (m a : OutsideTold) → KeepsNode name node ended m a status → IsServeStatus ended
-    → IsServeStatus status
-kept_answers name None ended status m a keeps answers =
+kept_answers : (name : List ℕ) (node : Option NodeState) (written : Option Status)
+    (ended status : Status) (m a : OutsideTold) → KeepsNode name node written ended m a status
+    → IsServeStatus ended → IsServeStatus status
+kept_answers name None None ended status m a keeps answers =
     subst (λ s. IsServeStatus s) (sym keeps.0) answers
-kept_answers name (Some node) ended status m a keeps answers =
-    subst (λ s. IsServeStatus s) (sym keeps.2)
-    (written_answers keeps.0 ended keeps.1.ends answers)
+kept_answers name None (Some written) ended status m a keeps answers = absurd keeps
+kept_answers name (Some node) None ended status m a keeps answers = absurd keeps
+kept_answers name (Some node) (Some written) ended status m a keeps answers =
+    subst (λ s. IsServeStatus s) (sym keeps.1)
+    (written_answers written ended keeps.0.ends answers)
 
 goes_answers : (task : ServeTask) (course : ServeCourse) (m a : OutsideTold) (status : Status)
     → ServesBehindTables task course m a status → IsServeStatus status
@@ -290,7 +295,7 @@ goes_answers task (unshared centre) m a status goes =
 goes_answers task (unopened centre) m a status goes =
     subst (λ s. IsServeStatus s) (sym goes.0) tt
 goes_answers task (served run) m a status goes =
-    kept_answers task.journal run.node goes.runs.ended status goes.runs.closed a
+    kept_answers task.journal run.node run.written goes.runs.ended status goes.runs.closed a
     goes.runs.keeps
     (ended_answers run.end run.after.plant goes.runs.closes.plant goes.runs.ended
     goes.runs.closes.tells)

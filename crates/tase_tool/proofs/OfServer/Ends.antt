@@ -11,17 +11,15 @@ use Rattle.commands.specs.Io.Statuses.{is_outside}
 use Rattle.commands.specs.Io.OutsideUse.{Grows, Rises, Uses}
 use Rattle.commands.specs.declared.io.input.Refusal.TheVariants as refusals
 use Rattle.commands.specs.Io.Saying.{Said, prints, refusal_text, full_text}
-use Rattle.commands.specs.Io.Runs.{TellsSaid, IsFileEnd, WritesFile, status_behind}
+use Rattle.commands.specs.Io.Runs.{TellsSaid, IsFileEnd, status_behind}
 use Rattle.commands.proofs.OfIo.Leaving.{Grows-then, Rises-after, Rises-before, Rises-grows}
 use Rattle.commands.proofs.OfIo.Leaving.{Grows-same}
-use Rattle.texts.specs.Journal.Journals.{journal_text}
 use Rattle.server_main.specs.declared.serve_end.ServeEnd.{ServeEnd}
 use Rattle.server_main.specs.declared.serve_end.ServeEnd.TheVariants as ends
 use Rattle.server_main.specs.Serving.{ServerTold, HasRisen, HasFailed}
 use Rattle.tase_tool.specs.Server.Opening.{WorkTold}
 use Rattle.tase_tool.specs.Server.Courses.{work_of}
-use Rattle.tase_tool.specs.Server.Serving.{TellsEnd, ClosesServer, KeepsNode, IsNodeKept}
-use Rattle.tase_tool.specs.Server.Serving.{IsJournalShort}
+use Rattle.tase_tool.specs.Server.Serving.{TellsEnd, ClosesServer, KeepsNode}
 use Rattle.tase_tool.proofs.OfServer.Counted.{next-positive, Grows-counted, Rises-faulty, inputs-grow}
 use Rattle.tase_tool.proofs.OfServer.Counted.{inputs-rise}
 
@@ -116,42 +114,45 @@ written_memory other ended file same = absurd file
 
 -- Want of memory is the answer only where the server ended so, or where the journal wasn't written
 -- for it.
-pub kept_memory : (name : List ℕ) (node : Option NodeState) (end : ServeEnd) (k l : SinkTold)
-    (ended : Status) (m a : OutsideTold) → TellsEnd end k l ended
-    → KeepsNode name node ended m a statuses.Memory
-    → (end ≡ ends.Memory) ⊎ IsJournalShort name node a
-kept_memory name None end k l ended m a tells keeps =
+pub kept_memory : (name : List ℕ) (node : Option NodeState) (written : Option Status)
+    (end : ServeEnd) (k l : SinkTold) (ended : Status) (m a : OutsideTold) → TellsEnd end k l ended
+    → KeepsNode name node written ended m a statuses.Memory
+    → (end ≡ ends.Memory) ⊎ (written ≡ Some statuses.Memory)
+kept_memory name None None end k l ended m a tells keeps =
     inl (ended_memory end k l (subst (λ s. TellsEnd end k l s) (sym keeps.0) tells))
-kept_memory name (Some node) end k l ended m a tells keeps =
-    elim (written_memory keeps.0 ended keeps.1.ends keeps.2) [
+kept_memory name None (Some written) end k l ended m a tells keeps = absurd keeps
+kept_memory name (Some node) None end k l ended m a tells keeps = absurd keeps
+kept_memory name (Some node) (Some written) end k l ended m a tells keeps =
+    elim (written_memory written ended keeps.0.ends keeps.1) [
       | inl before ↦
           inl (ended_memory end k l (subst (λ s. TellsEnd end k l s) before tells))
-      | inr short ↦
-          inr (m, subst (λ s. WritesFile name (journal_text node.history) m a s) short keeps.1)
+      | inr short ↦ inr (ap (λ (s : Status). Some s) short)
     ]
 
 -- A fault outside is the answer where it was so before, or where the count rose since.
-pub kept_outside : (name : List ℕ) (node : Option NodeState) (ended status : Status)
-    (m a : OutsideTold) → KeepsNode name node ended m a status → status ≡ statuses.Outside
+pub kept_outside : (name : List ℕ) (node : Option NodeState) (written : Option Status)
+    (ended status : Status) (m a : OutsideTold) → KeepsNode name node written ended m a status
+    → status ≡ statuses.Outside
     → ((ended ≡ statuses.Outside) × Grows m.faults a.faults) ⊎ Rises m.faults a.faults
-kept_outside name None ended status m a keeps same =
+kept_outside name None None ended status m a keeps same =
     let as_before : a.faults ≡ m.faults = ap (λ (o : OutsideTold). o.faults) keeps.1 in
     inl (sym keeps.0 ∙ same, Grows-same m.faults a.faults as_before)
-kept_outside name (Some node) ended status m a keeps same =
-    elim (written_outside keeps.0 ended keeps.1.ends (sym keeps.2 ∙ same)) [
-      | inl before ↦ inl (before, Uses-grow [] (name ∷ []) keeps.0 m a keeps.1.tells.uses)
-      | inr failed ↦ inr (keeps.1.tells.uses.counted.cause (ap is_outside failed))
+kept_outside name None (Some written) ended status m a keeps same = absurd keeps
+kept_outside name (Some node) None ended status m a keeps same = absurd keeps
+kept_outside name (Some node) (Some written) ended status m a keeps same =
+    elim (written_outside written ended keeps.0.ends (sym keeps.1 ∙ same)) [
+      | inl before ↦ inl (before, Uses-grow [] (name ∷ []) written m a keeps.0.tells.uses)
+      | inr failed ↦ inr (keeps.0.tells.uses.counted.cause (ap is_outside failed))
     ]
 
 -- Done is the answer only where it was so before, and the journal of the node is whole.
-pub kept_done : (name : List ℕ) (node : NodeState) (ended : Status) (m a : OutsideTold)
-    → KeepsNode name (Some node) ended m a statuses.Done
-    → (ended ≡ statuses.Done) × IsNodeKept name (Some node) a
-kept_done name node ended m a keeps =
-    let both = written_done keeps.0 ended keeps.1.ends keeps.2 in (
-      both.1,
-      (m, subst (λ s. WritesFile name (journal_text node.history) m a s) both.0 keeps.1),
-    )
+pub kept_done : (name : List ℕ) (node : NodeState) (written : Option Status) (ended : Status)
+    (m a : OutsideTold) → KeepsNode name (Some node) written ended m a statuses.Done
+    → (ended ≡ statuses.Done) × (written ≡ Some statuses.Done)
+kept_done name node None ended m a keeps = absurd keeps
+kept_done name node (Some written) ended m a keeps =
+    let both = written_done written ended keeps.0.ends keeps.1 in
+    (both.1, ap (λ (s : Status). Some s) both.0)
 
 -- ---- all that is closed
 

@@ -203,24 +203,30 @@ failed_reason task t o d before after end status opens closes names same (inr (i
     clock_failed task t o d (work_of before) (work_of after) end status opens closes
     (risen_positive before.clock.faults after.clock.faults clock)
 
-kept_node : (name : List ℕ) (node : Option NodeState) (ended status : Status)
-    (d a : OutsideTold) → KeepsNode name node ended d a status → IsKept d a
-kept_node name None ended status d a keeps =
+kept_node : (name : List ℕ) (node : Option NodeState) (written : Option Status)
+    (ended status : Status) (d a : OutsideTold) → KeepsNode name node written ended d a status
+    → IsKept d a
+kept_node name None None ended status d a keeps =
     subst (λ (o : OutsideTold). IsKept d o) (sym keeps.1) (kept_all d)
-kept_node name (Some node) ended status d a keeps =
-    kept_used [] (name ∷ []) (is_outside keeps.0) d a keeps.1.tells.uses
+kept_node name None (Some written) ended status d a keeps = absurd keeps
+kept_node name (Some node) None ended status d a keeps = absurd keeps
+kept_node name (Some node) (Some written) ended status d a keeps =
+    kept_used [] (name ∷ []) (is_outside written) d a keeps.0.tells.uses
 
 -- the journal failed, or the status was so before
 journal_reason : (task : ServeTask) (t d a : OutsideTold) (node : Option NodeState)
-    (ended status : Status) → KeepsNode task.journal node ended d a status
+    (written : Option Status) (ended status : Status)
+    → KeepsNode task.journal node written ended d a status
     → status ≡ statuses.Outside
     → ((name : List ℕ) → IsLater (t.sinks name) (d.sinks name))
     → (ended ≡ statuses.Outside) ⊎ HasFaultyName task t a
-journal_reason task t d a None ended status keeps same later = inl (sym keeps.0 ∙ same)
-journal_reason task t d a (Some node) ended status keeps same later =
-    elim (written_outside keeps.0 ended keeps.1.ends (sym keeps.2 ∙ same)) [
+journal_reason task t d a None None ended status keeps same later = inl (sym keeps.0 ∙ same)
+journal_reason task t d a None (Some written) ended status keeps same later = absurd keeps
+journal_reason task t d a (Some node) None ended status keeps same later = absurd keeps
+journal_reason task t d a (Some node) (Some written) ended status keeps same later =
+    elim (written_outside written ended keeps.0.ends (sym keeps.1 ∙ same)) [
       | inl before ↦ inl before
-      | inr failed ↦ elim (keeps.1.tells.uses.counted.reason (ap is_outside failed)) [
+      | inr failed ↦ elim (keeps.0.tells.uses.counted.reason (ap is_outside failed)) [
         | inl none ↦ absurd none
         | inr some ↦ elim some [
           | inl journal ↦ inr (inr (inl (inr (inl (lifted sink_faults (t.sinks task.journal)
@@ -239,12 +245,13 @@ runs_reason task t a run status goes same =
     let left = work_of run.after in
     let closes = goes.runs.closes in
     let names = goes.runs.serves.names in
-    let kept = kept_node task.journal run.node goes.runs.ended status goes.runs.closed a
+    let kept = kept_node task.journal run.node run.written goes.runs.ended status goes.runs.closed a
     goes.runs.keeps in
     let wider = faulty_between task t t goes.runs.closed a (kept_all t) kept in
     let by_server = failed_reason task t goes.opened goes.runs.closed run.before run.after run.end
     goes.runs.ended goes.opens closes names in
-    elim (journal_reason task t goes.runs.closed a run.node goes.runs.ended status
+    elim (journal_reason task t goes.runs.closed a run.node run.written goes.runs.ended
+    status
     goes.runs.keeps same (sinks_later task t goes.opened goes.runs.closed w left run.end
     goes.runs.ended goes.opens closes names.plant)) [
       | inl before ↦ elim (ended_outside run.end run.after.plant closes.plant

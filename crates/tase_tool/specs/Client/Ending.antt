@@ -8,14 +8,11 @@ use Rattle.commands.specs.declared.io.status.Status.{Status}
 use Rattle.commands.specs.declared.io.status.Status.TheVariants as statuses
 use Rattle.commands.specs.Io.Saying.{prints}
 use Rattle.commands.specs.Io.Runs.{TellsSaid}
+use Rattle.tase_tool.specs.Lines.{named_line, stray_line}
 use Rattle.centre_client.specs.declared.end.ClientEnd.{ClientEnd}
 use Rattle.centre_client.specs.declared.end.ClientEnd.TheVariants as ends
 use Rattle.centre_client.specs.declared.service.run_end.RunEnd.{RunEnd}
 use Rattle.centre_client.specs.declared.service.run_end.RunEnd.TheVariants as runs
-
--- words behind a name, as a line
-abbrev pub named_line : List ℕ → List ℕ → List ℕ
-named_line name words = name ++ 32 ∷ [] ++ words ++ 10 ∷ []
 
 -- `LAYER PLACE WHY`
 abbrev pub fault_words : StackFault → List ℕ
@@ -32,10 +29,6 @@ number_words want got = signed_decimal want ++ 32 ∷ [] ++ signed_decimal got
 -- `checkback WANT GOT`
 abbrev pub checkback_line : ℤ → ℤ → List ℕ
 checkback_line want got = named_line (codes "checkback") (number_words want got)
-
--- `stray INVOKE`
-abbrev pub stray_invoke_line : ℕ → List ℕ
-stray_invoke_line invoke = codes "stray " ++ decimal invoke ++ 10 ∷ []
 
 -- a line on how a client ended by what its peer gave; it takes no memory
 abbrev pub TellsPeer : List ℕ → SinkTold → SinkTold → Status → Type 0
@@ -55,7 +48,7 @@ TellsClientEnd ends.Rejected before after status =
 TellsClientEnd (ends.Checkback want got) before after status =
     TellsPeer (checkback_line want got) before after status
 TellsClientEnd (ends.Stray invoke) before after status =
-    TellsPeer (stray_invoke_line invoke) before after status
+    TellsPeer (stray_line invoke) before after status
 TellsClientEnd ends.Memory before after status = (status ≡ statuses.Memory) × (after ≡ before)
 
 -- nor where its link or its sink has failed

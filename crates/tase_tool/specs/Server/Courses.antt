@@ -2,6 +2,7 @@
 use Rattle.std.specs.Prelude.{Option, Result, Ok, Err}
 use Rattle.bilateral.specs.Rows.{CentreRows}
 use Rattle.node_core.specs.NodeState.{NodeState}
+use Rattle.commands.specs.declared.io.status.Status.{Status}
 use Rattle.commands.specs.declared.io.input.InputEnd.{InputEnd}
 use Rattle.server_main.specs.declared.run.seats.Seats.{Seats}
 use Rattle.server_main.specs.declared.serve_end.ServeEnd.{ServeEnd}
@@ -9,12 +10,14 @@ use Rattle.server_main.specs.Serving.{ServerTold}
 use Rattle.tase_tool.specs.Server.Opening.{WorkTold}
 
 -- a run of a server: the tables that it served, what it worked on before and after, the node that
--- it left, if there was one, the seats, and how it ended
+-- it left, if there was one, and how the writing of its journal ended then, the seats, and how it
+-- ended
 pub record ServerRun : Type 0 where
   pub centre : CentreRows
   pub before : ServerTold
   pub after : ServerTold
   pub node : Option NodeState
+  pub written : Option Status
   pub seats : Seats
   pub end : ServeEnd
 

@@ -61,14 +61,22 @@ pub record ClosesServer (before after : OutsideTold) (left : WorkTold) (end : Se
   pub tells : TellsEnd end left.1.1.1 plant status
   pub output : ClosesOut mid after plant
 
--- the journal of a node is written to the file of this name, whatever the status was; without a
--- node nothing is touched
-abbrev pub KeepsNode : List ℕ → Option NodeState → Status → OutsideTold → OutsideTold → Status
-    → Type 0
-KeepsNode name None status before after result = (result ≡ status) × (after ≡ before)
-KeepsNode name (Some node) status before after result = (written : Status)
-    × WritesFile name (journal_text node.history) before after written
+-- The journal of a node is written to the file of this name, whatever the status was, and the
+-- writing ends so. Without a node nothing is touched.
+abbrev pub KeepsNode : List ℕ → Option NodeState → Option Status → Status → OutsideTold
+    → OutsideTold → Status → Type 0
+KeepsNode name None None status before after result = (result ≡ status) × (after ≡ before)
+KeepsNode name None (Some written) status before after result = ⊥
+KeepsNode name (Some node) None status before after result = ⊥
+KeepsNode name (Some node) (Some written) status before after result =
+    WritesFile name (journal_text node.history) before after written
     × (result ≡ status_behind status written)
+
+-- the same, however the writing ends
+abbrev pub KeepsJournal : List ℕ → Option NodeState → Status → OutsideTold → OutsideTold → Status
+    → Type 0
+KeepsJournal name node status before after result =
+    (written : Option Status) × KeepsNode name node written status before after result
 
 -- the tables that a server serves, and the octets that its history may weigh
 abbrev pub served_setup : ServeTask → ServerRun → NodeSetup
@@ -84,7 +92,7 @@ pub record RunsOpened (task : ServeTask) (before after : OutsideTold) (run : Ser
   pub closed : OutsideTold
   pub ended : Status
   pub closes : ClosesServer before closed (work_of run.after) run.end ended
-  pub keeps : KeepsNode task.journal run.node ended closed after status
+  pub keeps : KeepsNode task.journal run.node run.written ended closed after status
 
 -- all that the server works on is opened before
 pub record RunsServer (task : ServeTask) (before after : OutsideTold) (run : ServerRun)
@@ -153,34 +161,20 @@ HasFaultyName task before after = SomeOf (task.tables ∷ input_name ∷ [])
     (after.network.listeners task.address)
     ⊎ FaultyAt clock_faults before.network.clock after.network.clock))
 
--- the whole journal of the node was written last
-abbrev pub IsNodeKept : List ℕ → Option NodeState → OutsideTold → Type 0
-IsNodeKept name None after = ⊥
-IsNodeKept name (Some node) after = (closed : OutsideTold)
-    × WritesFile name (journal_text node.history) closed after statuses.Done
-
--- memory was wanting for the journal of the node
-abbrev pub IsJournalShort : List ℕ → Option NodeState → OutsideTold → Type 0
-IsJournalShort name None after = ⊥
-IsJournalShort name (Some node) after = (closed : OutsideTold)
-    × WritesFile name (journal_text node.history) closed after statuses.Memory
-
 -- Memory was wanting, and for what: for the tables, for what the threads of a server share, for the
 -- server, which then left something undone, or for the journal.
-abbrev pub LacksMemoryAt : ServeTask → ServeCourse → OutsideTold → Type 0
-LacksMemoryAt task (unread end) after = end ≡ inputs.Memory
-LacksMemoryAt task (unshared centre) after = Unit {0}
-LacksMemoryAt task (unopened centre) after = ⊥
-LacksMemoryAt task (served run) after =
-    (run.end ≡ ends.Memory) ⊎ IsJournalShort task.journal run.node after
+abbrev pub LacksMemoryAt : ServeCourse → Type 0
+LacksMemoryAt (unread end) = end ≡ inputs.Memory
+LacksMemoryAt (unshared centre) = Unit {0}
+LacksMemoryAt (unopened centre) = ⊥
+LacksMemoryAt (served run) = (run.end ≡ ends.Memory) ⊎ (run.written ≡ Some statuses.Memory)
 
--- the server came to its end, and the journal is whole
-abbrev pub IsServedToEnd : ServeTask → ServeCourse → OutsideTold → Type 0
-IsServedToEnd task (unread end) after = ⊥
-IsServedToEnd task (unshared centre) after = ⊥
-IsServedToEnd task (unopened centre) after = ⊥
-IsServedToEnd task (served run) after =
-    (run.end ≡ ends.Done) × IsNodeKept task.journal run.node after
+-- the server came to its end, and the whole journal of its node was written
+abbrev pub IsServedToEnd : ServeCourse → Type 0
+IsServedToEnd (unread end) = ⊥
+IsServedToEnd (unshared centre) = ⊥
+IsServedToEnd (unopened centre) = ⊥
+IsServedToEnd (served run) = (run.end ≡ ends.Done) × (run.written ≡ Some statuses.Done)
 
 -- a status that the command may answer: its words are a command, and nothing is compared
 abbrev pub IsServeStatus : Status → Type 0
@@ -208,6 +202,6 @@ pub record ServesCommand (task : ServeTask) (before after : OutsideTold)
   pub reason : status ≡ statuses.Outside
       → HasFaultyName task before after ⊎ IsJobRefused course
   -- want of memory is answered only where something was left undone for it
-  pub memory : status ≡ statuses.Memory → LacksMemoryAt task course after
+  pub memory : status ≡ statuses.Memory → LacksMemoryAt course
   -- it is called done only where all is
-  pub done : status ≡ statuses.Done → IsServedToEnd task course after
+  pub done : status ≡ statuses.Done → IsServedToEnd course

@@ -1,9 +1,11 @@
 //! How a client ended, told on standard output behind what it showed. It takes no memory.
-ghost use Rattle.std.specs.Prelude.{◌≡◌, ◌++◌, [], ◌∷◌, List, ℕ};
+ghost use Rattle.std.specs.Prelude.{◌≡◌, List, ℕ};
 ghost use Rattle.outside.specs.Sink.{SinkTold, WritesAll};
 ghost use Rattle.tase_tool.specs.Client.Ending.{TellsRunEnd, TellsClientEnd, TellsPeer};
 ghost use Rattle.tase_tool.specs.Client.Ending as own;
+ghost use Rattle.tase_tool.specs.Lines.{stray_line};
 
+use crate::lines::{write_both, write_line, write_words};
 use centre_client::ClientEnd;
 use centre_client::service::RunEnd;
 use commands::io::{Status, tell};
@@ -49,38 +51,6 @@ fn peer_status(written: Result<(), SinkFailed>) -> Status
     }
 }
 
-/// Writes one text after another.
-fn write_both<K: Sink>(sink: &mut K, first: &[u8], next: &[u8]) -> Result<(), SinkFailed>
-    ensures { WritesAll (K.told sink.old) (K.told sink.new) (first.now ++ next.now) result }
-{
-    write_all(sink, first)?;
-    write_all(sink, next)
-}
-
-/// Writes two words with a space between them.
-fn write_words<K: Sink>(sink: &mut K, first: &[u8], next: &[u8]) -> Result<(), SinkFailed>
-    ensures { WritesAll (K.told sink.old) (K.told sink.new) (first.now ++ 32 ∷ [] ++ next.now)
-        result }
-{
-    write_both(sink, first, b" ")?;
-    write_all(sink, next)
-}
-
-/// Writes two words behind a name, as a line.
-fn write_line<K: Sink>(
-    sink: &mut K,
-    name: &[u8],
-    first: &[u8],
-    next: &[u8],
-) -> Result<(), SinkFailed>
-    ensures { WritesAll (K.told sink.old) (K.told sink.new)
-        (own.named_line name.now (first.now ++ 32 ∷ [] ++ next.now)) result }
-{
-    write_both(sink, name, b" ")?;
-    write_words(sink, first, next)?;
-    write_all(sink, b"\n")
-}
-
 /// `peer refused LAYER PLACE WHY`.
 fn write_refused<K: Sink>(sink: &mut K, fault: StackFault) -> Result<(), SinkFailed>
     ensures { WritesAll (K.told sink.old) (K.told sink.new) (own.refused_line fault) result }
@@ -104,7 +74,7 @@ fn write_checkback<K: Sink>(sink: &mut K, want: i64, got: i64) -> Result<(), Sin
 
 /// `stray INVOKE`.
 fn write_stray<K: Sink>(sink: &mut K, invoke: u32) -> Result<(), SinkFailed>
-    ensures { WritesAll (K.told sink.old) (K.told sink.new) (own.stray_invoke_line invoke) result }
+    ensures { WritesAll (K.told sink.old) (K.told sink.new) (stray_line invoke) result }
 {
     let mut number = Buffer::new();
     let digits = number.format(invoke);

@@ -5,7 +5,7 @@ ghost use Rattle.server_main.specs.NodeServer.Turn.Logged.{turn_setup, turn_log}
 ghost use Rattle.commands.specs.Words.Words.{served_limit, serve_seen};
 ghost use Rattle.server_main.specs.Serving.{IsServed, server_told};
 ghost use Rattle.tase_tool.specs.Server.Serving.{ServesCommand, TakesCourse, ServesOpened};
-ghost use Rattle.tase_tool.specs.Server.Serving.{TellsEnd, KeepsNode, ClosesServer};
+ghost use Rattle.tase_tool.specs.Server.Serving.{TellsEnd, KeepsJournal, ClosesServer};
 
 use crate::server::opening::{Opened, open_all};
 use crate::server::telling::{note_journal, note_served};
@@ -246,7 +246,8 @@ fn keep_node<O: Outside>(
     name: &str,
     status: Status,
 ) -> Status
-    ensures { KeepsNode name.now node.now status (O.told outside.old) (O.told outside.new) result }
+    ensures { KeepsJournal name.now node.now status (O.told outside.old) (O.told outside.new)
+        result }
 {
     match node {
         Some(node) => {

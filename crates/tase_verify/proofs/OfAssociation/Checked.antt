@@ -1,7 +1,8 @@
 -- A check of an association, by what was heard of its link.
 use Rattle.std.proofs.Common.{◌≡◌, ℕ, ℤ, Bool, false, List, [], ◌∷◌, ◌++◌, Option, Some, None}
 use Rattle.std.proofs.Common.{refl, sym, ap, subst, ◌∙◌, append_assoc, ◌⊎◌, inl, inr}
-use Rattle.std.specs.Prelude.{is_some, map, drop}
+use Rattle.std.specs.Prelude.{is_some, map, drop, Result, Ok, Err, IfOk}
+use Rattle.std.specs.declared.alloc.AllocError.{AllocError}
 use Rattle.std.specs.List.{filter_map, All}
 use Rattle.std.proofs.lemmas.Option.{none-some}
 use Rattle.mms_services.specs.declared.initiate.Initiate.{Initiate}
@@ -27,7 +28,10 @@ use Rattle.texts.specs.Journal.Entries.{IsEvent}
 use Rattle.tase_verify.specs.declared.association.answered.AnsweredEvent.{AnsweredEvent}
 use Rattle.tase_verify.specs.declared.association.hearing.Heard.{Heard}
 use Rattle.tase_verify.specs.declared.association.saying.Terms.{Terms}
+use Rattle.tase_verify.specs.declared.association.account.Account.{Account}
+use Rattle.tase_verify.specs.declared.association.account.Account.TheVariants.{Octets, Stray}
 use Rattle.tase_verify.specs.declared.association.verdict.Verdict.TheVariants as verdicts
+use Rattle.tase_verify.specs.Association.Accounting.{IsAccount}
 use Rattle.tase_verify.specs.Association.Answered.{answered_in}
 use Rattle.tase_verify.specs.Association.Asking.{asked_open, asked_by, asked_in, broken_turns}
 use Rattle.tase_verify.specs.Association.Asking.{turns_of_inputs}
@@ -38,7 +42,8 @@ use Rattle.tase_verify.specs.Association.Spelled.{IsToldSpelled}
 use Rattle.tase_verify.specs.Association.Stray.{events_asked, events_told, stray_from}
 use Rattle.tase_verify.specs.Association.Stray.{first_stray}
 use Rattle.tase_verify.specs.Association.Terms.{AreTermsOf}
-use Rattle.tase_verify.specs.Association.Verdicts.{verdict_by, verdict_between, verdict_of}
+use Rattle.tase_verify.specs.Association.Verdicts.{Judges, verdict_by, verdict_between}
+use Rattle.tase_verify.specs.Association.Verdicts.{verdict_of}
 use Rattle.tase_verify.proofs.OfAssociation.AskedEvents.{asked_events}
 use Rattle.tase_verify.proofs.OfAssociation.KindsAlike.{alike, with_turns, octets_alike}
 use Rattle.tase_verify.proofs.OfAssociation.Matched.{IsYet, IsOpened, IsMatched}
@@ -321,3 +326,37 @@ module _ (rows : CentreRows) (answered : List AnsweredEvent) (octets : List ℕ)
       ∙ sym (said_verdict setup key past octets ended sent heard terms h s t
       (exact t.offer t.offered t.enough) none)
       ∙ ap (λ (r : CentreRows). verdict_of r past key octets ended sent) same
+
+-- by whichever was found
+pub accounted : (rows : CentreRows) (answered : List AnsweredEvent) (octets : List ℕ)
+    (ended : Bool) (heard : Heard) (asked : List EventKind) → HasHeard octets heard
+    → asked ≡ asked_in rows (turns_of_inputs heard.inputs.items heard.broken ended)
+    → All IsEvent asked → All IsToldSpelled answered
+    → (account : Account) → IsAccount heard ended answered asked account
+    → (setup : Setup) (past : Past) (key : Key) → setup.centre ≡ rows
+    → answered ≡ answered_in setup key past
+    → Judges (verdict_of rows past key octets ended) account
+accounted rows answered octets ended heard asked h a spelled told (Stray number) is
+    setup past key same are =
+    λ sent. stray_found rows answered octets ended sent heard asked number h a (sym is)
+    setup past key same are
+accounted rows answered octets ended heard asked h a spelled told (Octets want) is
+    setup past key same are =
+    λ sent. said_found rows answered octets ended sent heard asked is.1.terms want.items h a
+    spelled told (sym is.0) is.1.exact is.1.said setup past key same are
+
+-- the same of an answer that may be want of memory
+pub check_of : (rows : CentreRows) (answered : List AnsweredEvent) (octets : List ℕ)
+    (ended : Bool) (heard : Heard) (asked : List EventKind) → HasHeard octets heard
+    → asked ≡ asked_in rows (turns_of_inputs heard.inputs.items heard.broken ended)
+    → All IsEvent asked → All IsToldSpelled answered
+    → (found : Result Account AllocError) → IfOk found (IsAccount heard ended answered asked)
+    → (setup : Setup) (past : Past) (key : Key) → setup.centre ≡ rows
+    → answered ≡ answered_in setup key past
+    → IfOk found (Judges (verdict_of rows past key octets ended))
+check_of rows answered octets ended heard asked h a spelled told (Ok account) is
+    setup past key same are =
+    accounted rows answered octets ended heard asked h a spelled told account is setup past key
+    same are
+check_of rows answered octets ended heard asked h a spelled told (Err lack) is
+    setup past key same are = tt

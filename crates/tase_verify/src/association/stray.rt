@@ -1,69 +1,58 @@
 //! Which event of an association isn't what its link asks.
-ghost use Rattle.std.specs.Prelude.{◌≡◌, if◌then◌else◌, Some, None, IfOk, option_map, drop};
-ghost use Rattle.tase_views.specs.EventTexts.{event_text};
+ghost use Rattle.std.specs.Prelude.{◌≡◌, if◌then◌else◌, Some, None, option_map, drop};
 ghost use Rattle.tase_views.specs.Outcomes.{is_close};
-ghost use Rattle.tase_conn.specs.Map.Asks.{is_take};
+ghost use Rattle.tase_conn.specs.Map.Asks.{is_take, without_takes};
+ghost use Rattle.tase_verify.specs.Association.Spelled.{events_spelled};
 ghost use Rattle.tase_verify.specs.Association.Stray.{same_event, is_request, asked_behind};
-ghost use Rattle.tase_verify.specs.Association.Stray.{events_told, first_stray};
+ghost use Rattle.tase_verify.specs.Association.Stray.{first_stray};
 
-use crate::association::answered::AnsweredEvent;
-use std::alloc::{AllocError, Global};
+use crate::association::spelled_event::SpelledEvent;
 use tase_views::{Event, EventKind};
-use texts::events::spell_event;
 
 /// The number of the first event, counted from 0 and without takes, that isn't accounted for by
 /// what is asked, or is missing; none where there is no such event. Where there are no events it is
-/// 0.
-pub(crate) fn first_stray(
-    alloc: Global,
-    answered: &[AnsweredEvent],
-    asked: &[Event],
-) -> Result<Option<u64>, AllocError>
-    ensures { IfOk result (λ found. found ≡ first_stray (events_told answered.now) asked.now) }
+/// 0. It takes no memory.
+pub(crate) fn first_stray(events: &[SpelledEvent<'_>], asked: &[SpelledEvent<'_>]) -> Option<u64>
+    ensures { result ≡ first_stray (without_takes (events_spelled events.now))
+        (events_spelled asked.now) }
 {
     let mut number: u64 = 0;
     let mut done = 0;
-    for told in answered {
-        if is_take(&told.event) {
+    for event in events {
+        if is_take(event.event) {
             continue;
         }
-        match done_behind(alloc, &told.event, asked, done)? {
+        match done_behind(event, asked, done) {
             Some(more) => done = more,
-            None => return Ok(Some(number)),
+            None => return Some(number),
         }
         number += 1;
     }
     if number == 0 {
-        return Ok(Some(number));
+        return Some(number);
     }
     if done < asked.len() {
-        return Ok(Some(number));
+        return Some(number);
     }
-    Ok(None)
+    None
 }
 
 /// How many of those that are asked are done with behind an event, where so many were before it;
 /// none where it isn't accounted for.
-fn done_behind(
-    alloc: Global,
-    event: &Event,
-    asked: &[Event],
-    done: usize,
-) -> Result<Option<usize>, AllocError>
-    ensures behind { IfOk result (λ found.
-        option_map (λ more. drop more asked.now) found
-        ≡ asked_behind event.now (drop done asked.now)) }
+fn done_behind(event: &SpelledEvent<'_>, asked: &[SpelledEvent<'_>], done: usize) -> Option<usize>
+    ensures { option_map (λ more. events_spelled (drop more asked.now)) result
+        ≡ asked_behind event.now.event.now (events_spelled (drop done asked.now)) }
 {
     let Some(next) = asked.get(done) else {
-        return Ok(closes_behind_all(event, asked.len()));
+        return closes_behind_all(event.event, asked.len());
     };
-    if is_close(event) && is_request(next) {
-        return Ok(Some(asked.len()));
+    if is_close(event.event) && is_request(next.event) {
+        return Some(asked.len());
     }
-    if same_event(alloc, event, next)? {
-        return Ok(Some(done + 1));
+    if same_event(event, next) {
+        return Some(done + 1);
     }
-    Ok(None)
+    None
 }
 
 /// All are done with behind a close of the node's own.
@@ -74,20 +63,10 @@ fn closes_behind_all(event: &Event, all: usize) -> Option<usize>
 }
 
 /// Whether two events have one text.
-fn same_event(alloc: Global, one: &Event, other: &Event) -> Result<bool, AllocError>
-    ensures { IfOk result (λ same. same ≡ same_event one.now other.now) }
+fn same_event(one: &SpelledEvent<'_>, other: &SpelledEvent<'_>) -> bool
+    ensures { result ≡ same_event one.now.event.now other.now.event.now }
 {
-    let one = text_of(alloc, one)?;
-    let other = text_of(alloc, other)?;
-    Ok(one.as_slice() == other.as_slice())
-}
-
-fn text_of(alloc: Global, event: &Event) -> Result<Vec<u8>, AllocError>
-    ensures { IfOk result (λ text. text.items ≡ event_text event.now) }
-{
-    let mut text = Vec::new(alloc);
-    spell_event(&mut text, event)?;
-    Ok(text)
+    one.text.as_slice() == other.text.as_slice()
 }
 
 fn is_take(event: &Event) -> bool

@@ -1,6 +1,8 @@
 //! What becomes of the octets that an association was sent.
-ghost use Rattle.std.specs.Prelude.{◌≡◌, slice_get};
-ghost use Rattle.tase_verify.specs.Association.Verdicts.{common, verdict_between};
+ghost use Rattle.std.specs.Prelude.{◌≡◌, ◌+◌, ◌<◌, ◌≤◌, ◌^◌, [], length, slice_get};
+ghost use Rattle.tase_verify.specs.Association.Verdicts.{common, verdict_between, verdict_from};
+
+use capture_text::Pieces;
 
 /// What a check of an association comes to.
 #[derive(Clone, Copy, Debug, PartialEq, Eq)]
@@ -20,18 +22,52 @@ pub enum Verdict {
     },
 }
 
-/// What octets come to, where others are wanted.
-pub(crate) fn compare(got: &[u8], want: &[u8]) -> Verdict
-    ensures { result ≡ verdict_between got.now want.now }
+/// What octets come to, where others are wanted. It takes no memory.
+pub(crate) fn compare(got: Pieces<'_>, want: &[u8]) -> Verdict
+    ensures { result ≡ verdict_between got.entry want.now }
 {
-    if got == want {
-        return Verdict::Equal;
+    let mut pieces = got;
+    let mut piece = [0; 256];
+    let mut rest = want;
+    loop {
+        let count = pieces.next(&mut piece);
+        if count == 0 {
+            return verdict_at_end(want.len() - rest.len(), rest);
+        }
+        let found = &piece[..count];
+        let same = common(found, rest);
+        if same < count {
+            return difference(want.len() - rest.len(), same, found, rest);
+        }
+        let (_, behind) = rest.split_at(count);
+        rest = behind;
     }
-    let place = common(got, want);
+}
+
+/// What octets come to that are the same up to a place, where these are wanted and none are left.
+fn verdict_at_end(place: usize, want: &[u8]) -> Verdict
+    ensures { result ≡ verdict_from place [] want.now }
+{
+    match want {
+        [] => Verdict::Equal,
+        [next, ..] => Verdict::Differs {
+            place: place as u64,
+            got: None,
+            want: Some(*next),
+        },
+    }
+}
+
+/// The difference behind so many octets, which begin at a place and are the same.
+fn difference(place: usize, same: usize, got: &[u8], want: &[u8]) -> Verdict
+    requires { place + same < 2 ^ 64 }
+    ensures { result ≡ Verdict.Differs (place + same) (slice_get got.now same)
+        (slice_get want.now same) }
+{
     Verdict::Differs {
-        place: place as u64,
-        got: octet_at(got, place),
-        want: octet_at(want, place),
+        place: (place + same) as u64,
+        got: octet_at(got, same),
+        want: octet_at(want, same),
     }
 }
 
@@ -43,7 +79,9 @@ fn octet_at(octets: &[u8], place: usize) -> Option<u8>
 
 /// How many octets both begin with.
 fn common(got: &[u8], want: &[u8]) -> usize
-    ensures { result ≡ common got.now want.now }
+    ensures value { result ≡ common got.now want.now }
+    ensures got { result ≤ length got.now }
+    ensures want { result ≤ length want.now }
 {
     let mut place = 0;
     while place < got.len() && place < want.len() && got[place] == want[place] {

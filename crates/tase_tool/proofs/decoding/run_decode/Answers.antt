@@ -1,16 +1,21 @@
-use Rattle.commands.specs.Io.Inputs.{value_as}
-use Rattle.commands.specs.Io.Plans.{says, octets_of}
-use Rattle.commands.proofs.OfIo.Plans.{IsRun-value}
-use Rattle.capture_text.specs.Captures.{capture_in}
-use Rattle.tase_tool.specs.Decoding.{pdu_said}
+use Rattle.std.proofs.Common.{inr}
+use Rattle.commands.proofs.OfIo.Plans.{IsRun-reads}
+use Rattle.tase_tool.specs.Decoding.{pdu_text}
 use Rattle.tase_tool.specs.Saying.{capture_asked}
 use Rattle.tase_tool.proofs.decoding.run_decode.Goals as goal
 
-pub returns : goal.returns
-returns g c =
-    IsRun-value (g.O.Outside.told c.args.outside.now)
-    (g.O.Outside.told c.read_octets-read.new.outside)
-    (g.O.Outside.told c.decode_octets.new.outside)
-    (capture_asked c.args.capture.now) capture_in (λ octets. says (pdu_said octets))
-    (value_as octets_of c.read_octets-read.result) c.decode_octets.result
-    c.read_octets-read.ensures c.decode_octets.ensures
+pub returns-clause-runs : goal.returns-clause-runs
+returns-clause-runs g c =
+    IsRun-reads (g.O.Outside.told c.args.outside.now)
+    (g.O.Outside.told c.read_input-read.new.outside) (g.O.Outside.told c.decode_read.new.outside)
+    (capture_asked c.args.capture.now) pdu_text c.read_input-read.result c.decode_read.result
+    c.read_input-read.ensures c.decode_read.ensures.runs
+
+pub returns-clause-memory : goal.returns-clause-memory
+returns-clause-memory g c =
+    λ lack. inr (
+      c.read_input-read.result,
+      (g.O.Outside.told c.read_input-read.new.outside),
+      c.read_input-read.ensures,
+      c.decode_read.ensures.memory lack,
+    )

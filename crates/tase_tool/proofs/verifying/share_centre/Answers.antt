@@ -1,18 +1,25 @@
-use Rattle.std.proofs.Common.{subst}
+use Rattle.std.proofs.Common.{[], ◌∷◌, refl, subst}
 use Rattle.commands.specs.Io.Plans.{RunsPlan}
 use Rattle.commands.proofs.OfIo.Plans.{RunsPlan-idle}
 use Rattle.commands.specs.Words.Words.{question_seen}
 use Rattle.tase_tool.specs.Verifying.{journal_plan}
+use Rattle.tase_tool.proofs.Lacking.{lacks_at_once}
 use Rattle.tase_tool.proofs.verifying.share_centre.Goals as goal
 
-pub returns-in-Ok : goal.returns-in-Ok
-returns-in-Ok g c =
+pub returns-in-Ok-clause-runs : goal.returns-in-Ok-clause-runs
+returns-in-Ok-clause-runs g c =
     subst (λ rows. RunsPlan (journal_plan (question_seen c.args.question) rows)
     (g.O.Outside.told c.args.outside.now) (g.O.Outside.told c.verify_centre.new.outside)
     c.verify_centre.result)
-    c.in-Ok.ensures c.verify_centre.ensures
+    c.in-Ok.ensures c.verify_centre.ensures.runs
 
-pub returns-in-Err : goal.returns-in-Err
-returns-in-Err g c =
+pub returns-in-Err-clause-runs : goal.returns-in-Err-clause-runs
+returns-in-Err-clause-runs g c =
     RunsPlan-idle (journal_plan (question_seen c.args.question) c.args.centre)
     (g.O.Outside.told c.args.outside.now)
+
+pub returns-in-Err-clause-memory : goal.returns-in-Err-clause-memory
+returns-in-Err-clause-memory g c =
+    let question = question_seen c.args.question in
+    λ lack. lacks_at_once (question.journal ∷ question.given ∷ []) question.sent
+    (g.O.Outside.told c.args.outside.now) (g.O.Outside.told c.args.outside.now) refl

@@ -1,13 +1,14 @@
-use Rattle.std.proofs.Common.{◌∙◌, ap, subst, codes}
+use Rattle.std.proofs.Common.{[], ◌∷◌, ◌∙◌, ap, subst, codes}
 use Rattle.std.specs.Arc.{arc_value}
 use Rattle.commands.specs.Io.Plans.{EndsPlan}
 use Rattle.commands.specs.Words.Words.{question_seen}
 use Rattle.tase_tool.specs.Verifying.{key_meant, given_plan, AreAnswers}
 use Rattle.tase_tool.proofs.Verified.{IsRun-journal}
+use Rattle.tase_tool.proofs.Lacking.{lacks_later}
 use Rattle.tase_tool.proofs.verifying.verify_centre.Goals as goal
 
-pub returns : goal.returns
-returns g c =
+pub returns-clause-runs : goal.returns-clause-runs
+returns-clause-runs g c =
     let question = question_seen c.args.question in
     let key = c.key_meant-key.result in
     let read = c.read_answered-read.ensures in
@@ -19,4 +20,12 @@ returns g c =
     read.0 read.1.0
     (subst (λ rows. AreAnswers rows key read.0 c.read_answered-read.result
     → EndsPlan (codes "journal") (given_plan question rows key) read.0 m a
-    c.verify_answered.result) c.deref-tables.ensures (c.verify_answered.ensures read.0) read.1.1)
+    c.verify_answered.result) c.deref-tables.ensures (c.verify_answered.ensures.runs read.0) read.1.1)
+
+pub returns-clause-memory : goal.returns-clause-memory
+returns-clause-memory g c =
+    let question = question_seen c.args.question in
+    λ lack. lacks_later question.journal (question.given ∷ []) question.sent
+    (g.O.Outside.told c.args.outside.now) (g.O.Outside.told c.read_answered-read.new.outside)
+    (g.O.Outside.told c.verify_answered.new.outside)
+    c.read_answered-read.ensures.1.0.1.opens.asked (c.verify_answered.ensures.memory lack)

@@ -1,21 +1,19 @@
-use Rattle.std.proofs.Common.{◌≡◌, ℕ, List, Option, ap, sym, subst, ◌∙◌}
+use Rattle.std.proofs.Common.{ℕ, List, Option, ap, sym, subst, ◌∙◌}
 use Rattle.std.specs.Prelude.{IfOk}
 use Rattle.sbo_device.specs.declared.key.Key.{Key}
-use Rattle.tase_verify.specs.declared.association.verdict.Verdict.{Verdict}
-use Rattle.tase_verify.specs.Association.Verdicts.{verdict_of}
+use Rattle.tase_verify.specs.Association.Verdicts.{Judges, verdict_of}
 use Rattle.tase_verify.specs.Verifying.{answered_for, verdict_for}
 use Rattle.tase_verify.proofs.verify.verify_association.Goals as goal
 
-pub returns-in-Some : goal.returns-in-Some
-returns-in-Some c =
+pub returns-in-Some-clause-account : goal.returns-in-Some-clause-account
+returns-in-Some-clause-account c =
     λ setup past same events.
     let rows = c.args.centre.now in
     let given = c.args.given.now in
     let key = c.in-Some.field-0 in
     let checked = c.check_association.ensures setup past key same
     (events ∙ ap (λ (k : Option Key). answered_for setup k past) c.in-Some.is) in
-    subst (λ (k : Option Key). IfOk c.check_association.result (λ (verdict : Verdict). verdict
-    ≡ verdict_for rows past k given.octets.items given.ended c.args.sent.now)) (sym c.in-Some.is)
-    (subst (λ (octets : List ℕ). IfOk c.check_association.result (λ (verdict : Verdict). verdict
-    ≡ verdict_of rows past key octets given.ended c.args.sent.now)) c.as_slice.ensures.value
-    checked)
+    subst (λ (k : Option Key). IfOk c.check_association.result
+    (Judges (verdict_for rows past k given.octets.items given.ended))) (sym c.in-Some.is)
+    (subst (λ (octets : List ℕ). IfOk c.check_association.result
+    (Judges (verdict_of rows past key octets given.ended))) c.as_slice.ensures.value checked)

@@ -4,7 +4,7 @@ use Rattle.std.specs.Int.RustNames.{FitsSigned}
 use Rattle.std.proofs.lemmas.Int.{to_z-of_z}
 use Rattle.outside.specs.Sink.{WritesAll}
 use Rattle.tase_tool.specs.Client.Ending.{TellsClientEnd, checkback_line, refused_line}
-use Rattle.tase_tool.specs.Client.Ending.{stray_invoke_line}
+use Rattle.tase_tool.specs.Lines.{stray_line}
 use Rattle.tase_tool.proofs.client.ending.tell_client_end.Goals as goal
 
 pub returns-in-Refused : goal.returns-in-Refused
@@ -35,4 +35,4 @@ returns-in-Stray g c =
     let now = g.K.Sink.told c.write_stray.new.sink in
     let told = c.peer_status-in-Stray in
     subst (λ end. TellsClientEnd end old now told.result) (sym c.in-Stray.is)
-    (told.ensures (stray_invoke_line c.in-Stray.invoke) old now c.write_stray.ensures)
+    (told.ensures (stray_line c.in-Stray.invoke) old now c.write_stray.ensures)

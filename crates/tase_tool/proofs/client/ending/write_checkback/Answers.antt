@@ -4,7 +4,7 @@ use Rattle.std.specs.Int.{w64}
 use Rattle.std.specs.Int.RustNames.{FitsSigned}
 use Rattle.std.proofs.lemmas.Int.{to_z-of_z}
 use Rattle.outside.specs.Sink.{WritesAll}
-use Rattle.tase_tool.specs.Client.Ending.{named_line}
+use Rattle.tase_tool.specs.Lines.{named_line}
 use Rattle.tase_tool.proofs.client.ending.write_checkback.Goals as goal
 
 pub returns : goal.returns

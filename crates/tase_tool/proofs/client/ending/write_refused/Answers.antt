@@ -1,18 +1,12 @@
 use Rattle.std.proofs.Common.{◌≡◌, true, ◌++◌, ◌∷◌, [], ◌∙◌, List, ℕ, codes, sym, subst}
-use Rattle.std.proofs.Common.{append_assoc}
 use Rattle.std.specs.Prelude.{decimal}
 use Rattle.std.proofs.lemmas.Result.{err_from_is_err_and}
 use Rattle.outside.specs.Sink.{AppendsPart, AppendsAll, WritesAll}
 use Rattle.outside.proofs.Writing.{AppendsPart-front, WritesAll-then}
 use Rattle.stack_assoc.specs.Listing.Names.{layer_name, why_name}
-use Rattle.tase_tool.specs.Client.Ending.{named_line}
+use Rattle.tase_tool.specs.Lines.{named_line}
+use Rattle.tase_tool.proofs.LineParts.{in_two}
 use Rattle.tase_tool.proofs.client.ending.write_refused.Goals as goal
-
--- the line is a front part, and a line behind it
-in_two : (front layer place why : List ℕ)
-    → named_line front (layer ++ 32 ∷ [] ++ place ++ 32 ∷ [] ++ why)
-    ≡ (front ++ 32 ∷ [] ++ layer) ++ named_line [] (place ++ 32 ∷ [] ++ why)
-in_two front layer place why = simp append_assoc
 
 pub returns-in_err-write_words : goal.returns-in_err-write_words
 returns-in_err-write_words g c =

@@ -18,6 +18,7 @@ returns-clause-serves g c =
             (g.O.Clock.Clock.told left.served.clock)
             c.serve_on-left.new.spawner.told.faults;
         node = left.served.node;
+        written = c.keep_node.ensures.0;
         seats = left.served.seats;
         end = left.served.end;
       };
@@ -31,8 +32,9 @@ returns-clause-serves g c =
         ended = c.close_server-node.result.1;
         closes = c.close_server-node.ensures.closes;
         keeps = subst (λ node. KeepsNode c.args.self.now.words.journal.now node
-            c.close_server-node.result.1 (g.O.Outside.told c.close_server-node.new.outside)
+            c.keep_node.ensures.0 c.close_server-node.result.1
+            (g.O.Outside.told c.close_server-node.new.outside)
             (g.O.Outside.told c.keep_node.new.outside) c.keep_node.result)
-            c.close_server-node.ensures.node c.keep_node.ensures;
+            c.close_server-node.ensures.node c.keep_node.ensures.1;
       };
     }

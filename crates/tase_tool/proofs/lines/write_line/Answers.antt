@@ -2,7 +2,7 @@ use Rattle.std.proofs.Common.{true, false, ◌++◌, [], ◌∷◌}
 use Rattle.std.proofs.lemmas.Result.{err_from_is_err_and}
 use Rattle.outside.proofs.Writing.{AppendsPart-front, AppendsPart-append, WritesAll-then}
 use Rattle.outside.proofs.Writing.{Appends-append}
-use Rattle.tase_tool.proofs.client.ending.write_line.Goals as goal
+use Rattle.tase_tool.proofs.lines.write_line.Goals as goal
 
 pub returns-in_err-write_both : goal.returns-in_err-write_both
 returns-in_err-write_both g c =

@@ -1,7 +1,7 @@
 use Rattle.std.proofs.Common.{true}
 use Rattle.std.proofs.lemmas.Result.{err_from_is_err_and}
 use Rattle.outside.proofs.Writing.{AppendsPart-front, WritesAll-then}
-use Rattle.tase_tool.proofs.client.ending.write_both.Goals as goal
+use Rattle.tase_tool.proofs.lines.write_both.Goals as goal
 
 pub returns-in_err-write_all : goal.returns-in_err-write_all
 returns-in_err-write_all g c =
