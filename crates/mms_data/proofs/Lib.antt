@@ -7,3 +7,4 @@ pub mod NameRead
 pub mod NameWritten
 pub mod OutcomeRead
 pub mod OfText
+pub mod OfTypes

@@ -1,4 +1,4 @@
-//! Data of MMS (ISO 9506-2), names of variables and outcomes of access, and their octets.
+//! Data of MMS (ISO 9506-2), names and types of variables and outcomes of access, and their octets.
 #![tactic(auto)]
 
 mod access_laws;
@@ -7,6 +7,7 @@ mod laws;
 mod object_name;
 mod outcome;
 pub mod text;
+pub mod types;
 
 pub use access_laws::{
     names_have_one_reading, outcomes_have_one_reading, written_names_are_read,

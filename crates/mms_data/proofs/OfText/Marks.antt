@@ -38,7 +38,7 @@ unmarked c = not (is_mark c)
 abbrev pub AreUnmarked : List ℕ → Type 0
 AreUnmarked os = list_all unmarked os ≡ true
 
-octet_unmarked : (c : ℕ) → is_word_octet c ≡ true → unmarked c ≡ true
+pub octet_unmarked : (c : ℕ) → is_word_octet c ≡ true → unmarked c ≡ true
 octet_unmarked c e = grind (arith, nat_tests)
 
 pub leaf_unmarked : (d : Datum) → IsLeaf d → IsTextual d → AreUnmarked (data_text d)

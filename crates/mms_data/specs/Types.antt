@@ -1,0 +1,9 @@
+pub mod TypeShape
+pub mod ShapeCode
+pub mod ShapeOf
+pub mod ShapeFalls
+pub mod ShapeKindFalls
+pub mod ShapeOctets
+pub mod ShapeWritten
+pub mod ShapeTexts
+pub mod SameShape
