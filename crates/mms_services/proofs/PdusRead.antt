@@ -14,6 +14,7 @@ use Rattle.mms_services.proofs.OfNames.NameListsRead.{name_list_request_contents
 use Rattle.mms_services.proofs.IdentitiesRead.{identify_request_contents, identify_response_contents}
 use Rattle.mms_services.proofs.OfAccess.ReadLaws.{read_request_contents, read_response_contents}
 use Rattle.mms_services.proofs.OfAccess.WriteLaws.{write_request_contents, write_response_contents}
+use Rattle.mms_services.proofs.OfAccess.TypesRead.{type_request_contents, type_response_contents}
 use Rattle.mms_services.proofs.OfNames.SetsRead.{define_request_contents, members_request_contents}
 use Rattle.mms_services.proofs.OfNames.SetsRead.{members_response_contents, delete_request_contents}
 use Rattle.mms_services.proofs.OfNames.SetsRead.{delete_response_contents}
@@ -41,7 +42,8 @@ one_request_reads =
     (choose_reads 130 _ _ (as_reads _ _ identify_request_contents)
     (choose_reads 164 _ _ (as_reads _ _ read_request_contents)
     (choose_reads 165 _ _ (as_reads _ _ write_request_contents)
-    set_request_reads)))
+    (choose_reads 166 _ _ (as_reads _ _ type_request_contents)
+    set_request_reads))))
 
 set_response_reads : IsGrammar set_response
 unfolding set_response
@@ -57,7 +59,8 @@ one_response_reads =
     (choose_reads 162 _ _ (as_reads _ _ identify_response_contents)
     (choose_reads 164 _ _ (as_reads _ _ read_response_contents)
     (choose_reads 165 _ _ (as_reads _ _ write_response_contents)
-    set_response_reads)))
+    (choose_reads 166 _ _ (as_reads _ _ type_response_contents)
+    set_response_reads))))
 
 pub invoke_reads : IsGrammar invoke_in
 unfolding invoke_in

@@ -16,6 +16,7 @@ use Rattle.mms_services.specs.Names.NameLists.{name_list_request_octets, name_li
 use Rattle.mms_services.specs.Identities.{identify_response_octets}
 use Rattle.mms_services.specs.Access.Reads.{read_request_octets, read_response_octets}
 use Rattle.mms_services.specs.Access.Writes.{write_request_octets, write_response_octets}
+use Rattle.mms_services.specs.Access.TypesOf.{type_request_octets, type_response_octets}
 use Rattle.mms_services.specs.Names.Defines.{define_request_octets}
 use Rattle.mms_services.specs.Names.MemberLists.{members_request_octets, members_response_octets}
 use Rattle.mms_services.specs.Names.Deletes.{delete_request_octets, delete_response_octets}
@@ -35,6 +36,7 @@ use Rattle.mms_services.proofs.OfNames.NameListsSpelled.{name_list_request-spell
 use Rattle.mms_services.proofs.OfAccess.ReadWritten.{read_request-spelled, read_response-spelled}
 use Rattle.mms_services.proofs.OfAccess.WriteWritten.{write_request-spelled, write_response-spelled}
 use Rattle.mms_services.proofs.OfAccess.ReportWritten.{report_pdu-spelled}
+use Rattle.mms_services.proofs.OfAccess.TypesWritten.{type_request-spelled, type_response-spelled}
 use Rattle.mms_services.proofs.OfNames.SetsWritten.{define_request-spelled, members_request-spelled, members_response-spelled, delete_request-spelled, delete_response-spelled, unsigned-written}
 
 request-writes : (at : ℕ) (r : Request) → IsWritableRequest r → IsHeldRequest r
@@ -53,24 +55,38 @@ request-writes at (requests.Read r) lawful held few rest =
     (r, read_request-spelled _ r lawful held less, refl)))
 request-writes at (requests.Write r) lawful held few rest =
     let less = contents-few 165 (write_request_octets r) few in
-    choose-other 161 _ _ at _ _ refl (choose-other 130 _ _ at _ _ refl (choose-other 164 _ _ at _ _ refl
+    choose-other 161 _ _ at _ _ refl (choose-other 130 _ _ at _ _ refl
+    (choose-other 164 _ _ at _ _ refl
     (choose-written 165 _ _ at (requests.Write r) (write_request_octets r) rest less
     (r, write_request-spelled _ r lawful held less, refl))))
+request-writes at (requests.TypeOf r) lawful held few rest =
+    let less = contents-few 166 (type_request_octets r) few in
+    choose-other 161 _ _ at _ _ refl (choose-other 130 _ _ at _ _ refl
+    (choose-other 164 _ _ at _ _ refl (choose-other 165 _ _ at _ _ refl
+    (choose-written 166 _ _ at (requests.TypeOf r) (type_request_octets r) rest less
+    (r, type_request-spelled _ r held, refl)))))
 request-writes at (requests.Define r) lawful held few rest =
     let less = contents-few 171 (define_request_octets r) few in
-    choose-other 161 _ _ at _ _ refl (choose-other 130 _ _ at _ _ refl (choose-other 164 _ _ at _ _ refl (choose-other 165 _ _ at _ _ refl
+    choose-other 161 _ _ at _ _ refl (choose-other 130 _ _ at _ _ refl
+    (choose-other 164 _ _ at _ _ refl (choose-other 165 _ _ at _ _ refl
+    (choose-other 166 _ _ at _ _ refl
     (choose-written 171 _ _ at (requests.Define r) (define_request_octets r) rest less
-    (r, define_request-spelled _ r lawful held less, refl)))))
+    (r, define_request-spelled _ r lawful held less, refl))))))
 request-writes at (requests.MembersOf r) lawful held few rest =
     let less = contents-few 172 (members_request_octets r) few in
-    choose-other 161 _ _ at _ _ refl (choose-other 130 _ _ at _ _ refl (choose-other 164 _ _ at _ _ refl (choose-other 165 _ _ at _ _ refl (choose-other 171 _ _ at _ _ refl
+    choose-other 161 _ _ at _ _ refl (choose-other 130 _ _ at _ _ refl
+    (choose-other 164 _ _ at _ _ refl (choose-other 165 _ _ at _ _ refl
+    (choose-other 166 _ _ at _ _ refl (choose-other 171 _ _ at _ _ refl
     (choose-written 172 _ _ at (requests.MembersOf r) (members_request_octets r) rest less
-    (r, members_request-spelled _ r held, refl))))))
+    (r, members_request-spelled _ r held, refl)))))))
 request-writes at (requests.Delete r) lawful held few rest =
     let less = contents-few 173 (delete_request_octets r) few in
-    choose-other 161 _ _ at _ _ refl (choose-other 130 _ _ at _ _ refl (choose-other 164 _ _ at _ _ refl (choose-other 165 _ _ at _ _ refl (choose-other 171 _ _ at _ _ refl (choose-other 172 _ _ at _ _ refl
+    choose-other 161 _ _ at _ _ refl (choose-other 130 _ _ at _ _ refl
+    (choose-other 164 _ _ at _ _ refl (choose-other 165 _ _ at _ _ refl
+    (choose-other 166 _ _ at _ _ refl (choose-other 171 _ _ at _ _ refl
+    (choose-other 172 _ _ at _ _ refl
     (choose-written 173 _ _ at (requests.Delete r) (delete_request_octets r) rest less
-    (r, delete_request-spelled _ r lawful held less, refl)))))))
+    (r, delete_request-spelled _ r lawful held less, refl))))))))
 request-writes at requests.Unknown lawful held few rest = absurd lawful
 
 response-writes : (at : ℕ) (r : Response) → IsLawfulResponse r → IsHeldResponse r
@@ -91,22 +107,36 @@ response-writes at (responses.Read r) lawful held few rest =
     (r, read_response-spelled _ r lawful held less, refl)))
 response-writes at (responses.Write r) lawful held few rest =
     let less = contents-few 165 (write_response_octets r) few in
-    choose-other 161 _ _ at _ _ refl (choose-other 162 _ _ at _ _ refl (choose-other 164 _ _ at _ _ refl
+    choose-other 161 _ _ at _ _ refl (choose-other 162 _ _ at _ _ refl
+    (choose-other 164 _ _ at _ _ refl
     (choose-written 165 _ _ at (responses.Write r) (write_response_octets r) rest less
     (r, write_response-spelled _ r, refl))))
+response-writes at (responses.TypeIs r) lawful held few rest =
+    let less = contents-few 166 (type_response_octets r) few in
+    choose-other 161 _ _ at _ _ refl (choose-other 162 _ _ at _ _ refl
+    (choose-other 164 _ _ at _ _ refl (choose-other 165 _ _ at _ _ refl
+    (choose-written 166 _ _ at (responses.TypeIs r) (type_response_octets r) rest less
+    (r, type_response-spelled _ r lawful less, refl)))))
 response-writes at responses.Define lawful held few rest =
-    choose-other 161 _ _ at _ _ refl (choose-other 162 _ _ at _ _ refl (choose-other 164 _ _ at _ _ refl (choose-other 165 _ _ at _ _ refl
-    (choose-written 139 _ _ at responses.Define [] rest (omega arith) (tt, refl, refl)))))
+    choose-other 161 _ _ at _ _ refl (choose-other 162 _ _ at _ _ refl
+    (choose-other 164 _ _ at _ _ refl (choose-other 165 _ _ at _ _ refl
+    (choose-other 166 _ _ at _ _ refl
+    (choose-written 139 _ _ at responses.Define [] rest (omega arith) (tt, refl, refl))))))
 response-writes at (responses.MembersOf r) lawful held few rest =
     let less = contents-few 172 (members_response_octets r) few in
-    choose-other 161 _ _ at _ _ refl (choose-other 162 _ _ at _ _ refl (choose-other 164 _ _ at _ _ refl (choose-other 165 _ _ at _ _ refl (choose-other 139 _ _ at _ _ refl
+    choose-other 161 _ _ at _ _ refl (choose-other 162 _ _ at _ _ refl
+    (choose-other 164 _ _ at _ _ refl (choose-other 165 _ _ at _ _ refl
+    (choose-other 166 _ _ at _ _ refl (choose-other 139 _ _ at _ _ refl
     (choose-written 172 _ _ at (responses.MembersOf r) (members_response_octets r) rest less
-    (r, members_response-spelled _ r lawful held less, refl))))))
+    (r, members_response-spelled _ r lawful held less, refl)))))))
 response-writes at (responses.Delete r) lawful held few rest =
     let less = contents-few 173 (delete_response_octets r) few in
-    choose-other 161 _ _ at _ _ refl (choose-other 162 _ _ at _ _ refl (choose-other 164 _ _ at _ _ refl (choose-other 165 _ _ at _ _ refl (choose-other 139 _ _ at _ _ refl (choose-other 172 _ _ at _ _ refl
+    choose-other 161 _ _ at _ _ refl (choose-other 162 _ _ at _ _ refl
+    (choose-other 164 _ _ at _ _ refl (choose-other 165 _ _ at _ _ refl
+    (choose-other 166 _ _ at _ _ refl (choose-other 139 _ _ at _ _ refl
+    (choose-other 172 _ _ at _ _ refl
     (part-writes 173 _ at (responses.Delete r) (delete_response_octets r) less
-    (r, delete_response-spelled _ r held, refl) rest))))))
+    (r, delete_response-spelled _ r held, refl) rest)))))))
 
 -- ---- numbers and services
 

@@ -134,7 +134,7 @@ initiate_detail-spelled : (at : ℕ) → initiate_detail.spells at (pos 1) initi
 unfolding initiate_detail initiate_detail_octets
 initiate_detail-spelled at =
     let parameters : List ℕ = 5 ∷ 225 ∷ 0 ∷ [] in
-    let services : List ℕ = 3 ∷ 108 ∷ 28 ∷ 0 ∷ 0 ∷ 0 ∷ 0 ∷ 0 ∷ 0 ∷ 0 ∷ 1 ∷ 16 ∷ [] in
+    let services : List ℕ = 3 ∷ 110 ∷ 28 ∷ 0 ∷ 0 ∷ 0 ∷ 0 ∷ 0 ∷ 0 ∷ 0 ∷ 1 ∷ 16 ∷ [] in
     let one : List ℕ = written 128 (1 ∷ []) in
     let two : List ℕ = written 129 parameters in
     let three : List ℕ = written 130 services in

@@ -18,6 +18,7 @@ use Rattle.mms_services.specs.Pdus.{requested, responded, confirmed_request, con
 use Rattle.mms_services.specs.Lawful.{IsLawfulRequest, IsLawfulResponse, IsLawfulPdu}
 use Rattle.ber_values.proofs.Holding.{part-holds, choose-holds, map-holds, as-holds, all-holds}
 use Rattle.mms_services.proofs.OfAccess.SpelledAccess.{read_request-holds, read_response-holds, write_request-holds, report_pdu-holds}
+use Rattle.mms_services.proofs.OfAccess.SpelledAccess.{type_response-holds}
 use Rattle.mms_services.proofs.OfNames.SpelledNames.{then-holds, name_list_request-holds, name_list_response-holds, define_request-holds, members_response-holds, delete_request-holds}
 use Rattle.mms_services.proofs.SpelledCodes.{error_pdu-holds, reject_pdu-holds}
 
@@ -41,7 +42,9 @@ one_request-holds at os t =
     (choose-holds IsLawfulRequest 130 _ _ at os t (as-holds IsLawfulRequest _ _ (λ place r inner s. tt))
     (choose-holds IsLawfulRequest 164 _ _ at os t (as-holds IsLawfulRequest requests.Read _ read_request-holds)
     (choose-holds IsLawfulRequest 165 _ _ at os t (as-holds IsLawfulRequest requests.Write _ write_request-holds)
-    (set_request-holds at os t))))
+    (choose-holds IsLawfulRequest 166 _ _ at os t
+    (as-holds IsLawfulRequest requests.TypeOf _ (λ place r inner s. tt))
+    (set_request-holds at os t)))))
 
 set_response-holds : (at : ℕ) (os : List ℕ) (t : Taken Response) → set_response.begins at os t → IsLawfulResponse t.value
 unfolding set_response
@@ -57,7 +60,9 @@ one_response-holds at os t =
     (choose-holds IsLawfulResponse 162 _ _ at os t (as-holds IsLawfulResponse _ _ (λ place r inner s. tt))
     (choose-holds IsLawfulResponse 164 _ _ at os t (as-holds IsLawfulResponse responses.Read _ read_response-holds)
     (choose-holds IsLawfulResponse 165 _ _ at os t (as-holds IsLawfulResponse responses.Write _ (λ place r inner s. tt))
-    (set_response-holds at os t))))
+    (choose-holds IsLawfulResponse 166 _ _ at os t
+    (as-holds IsLawfulResponse responses.TypeIs _ type_response-holds)
+    (set_response-holds at os t)))))
 
 confirmed_request-holds : (at : ℕ) (p : MmsPdu) (os : List ℕ) → confirmed_request.spells at p os → IsLawfulPdu p
 unfolding confirmed_request

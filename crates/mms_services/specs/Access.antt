@@ -2,3 +2,4 @@ pub mod Specifications
 pub mod Reads
 pub mod Writes
 pub mod Reports
+pub mod TypesOf

@@ -11,6 +11,7 @@ use Rattle.mms_services.specs.declared.pdu.MmsPdu.TheVariants as pdus
 use Rattle.mms_services.specs.Access.Specifications.{IsNamedSpec}
 use Rattle.mms_services.specs.Access.Reads.{IsHeldReadResponse}
 use Rattle.mms_services.specs.Access.Writes.{IsHeldWriteRequest}
+use Rattle.mms_services.specs.Access.TypesOf.{IsNamedType}
 use Rattle.mms_services.specs.Names.Defines.{IsNamedDefine}
 use Rattle.mms_services.specs.Names.MemberLists.{IsNamedSet, IsNamedMembers}
 use Rattle.mms_services.specs.Names.Deletes.{IsNamedDelete, IsCounted}
@@ -22,6 +23,7 @@ IsHeldRequest (requests.NameList r) = FitsSigned w64 r.class
 IsHeldRequest requests.Identify = Unit {0}
 IsHeldRequest (requests.Read r) = IsNamedSpec r.spec
 IsHeldRequest (requests.Write r) = IsHeldWriteRequest r
+IsHeldRequest (requests.TypeOf r) = IsNamedType r
 IsHeldRequest (requests.Define r) = IsNamedDefine r
 IsHeldRequest (requests.MembersOf r) = IsNamedSet r
 IsHeldRequest (requests.Delete r) = IsNamedDelete r
@@ -32,6 +34,7 @@ IsHeldResponse (responses.NameList r) = Unit {0}
 IsHeldResponse responses.Identify = Unit {0}
 IsHeldResponse (responses.Read r) = IsHeldReadResponse r
 IsHeldResponse (responses.Write r) = Unit {0}
+IsHeldResponse (responses.TypeIs r) = Unit {0}
 IsHeldResponse responses.Define = Unit {0}
 IsHeldResponse (responses.MembersOf r) = IsNamedMembers r
 IsHeldResponse (responses.Delete r) = IsCounted r

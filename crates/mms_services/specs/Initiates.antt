@@ -48,7 +48,7 @@ some_integer_octets tag (Some value) = written tag (integer_octets value)
 unfoldable pub initiate_detail_octets : List ℕ
 initiate_detail_octets = written 128 (1 ∷ [])
     ++ (written 129 (5 ∷ 225 ∷ 0 ∷ [])
-    ++ written 130 (3 ∷ 108 ∷ 28 ∷ 0 ∷ 0 ∷ 0 ∷ 0 ∷ 0 ∷ 0 ∷ 0 ∷ 1 ∷ 16 ∷ []))
+    ++ written 130 (3 ∷ 110 ∷ 28 ∷ 0 ∷ 0 ∷ 0 ∷ 0 ∷ 0 ∷ 0 ∷ 0 ∷ 1 ∷ 16 ∷ []))
 
 unfoldable pub last_octets : List ℕ
 last_octets = written 164 initiate_detail_octets

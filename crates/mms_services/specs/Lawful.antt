@@ -11,17 +11,19 @@ use Rattle.mms_services.specs.declared.pdu.MmsPdu.TheVariants as pdus
 use Rattle.mms_services.specs.Names.NameLists.{IsNamedRequest, IsNamedResponse}
 use Rattle.mms_services.specs.Access.Reads.{IsReadRequest, IsReadResponse}
 use Rattle.mms_services.specs.Access.Writes.{IsWriteRequest}
+use Rattle.mms_services.specs.Access.TypesOf.{IsTyped}
 use Rattle.mms_services.specs.Names.Defines.{IsDefine}
 use Rattle.mms_services.specs.Names.MemberLists.{IsMembers}
 use Rattle.mms_services.specs.Names.Deletes.{IsDelete}
 use Rattle.mms_services.specs.Access.Reports.{IsReport}
 
--- lists and names have lengths that they may have, and data are lawful
+-- lists and names have lengths that they may have, and data and types are lawful
 abbrev pub IsLawfulRequest : Request → Type 0
 IsLawfulRequest (requests.NameList r) = IsNamedRequest r
 IsLawfulRequest requests.Identify = Unit {0}
 IsLawfulRequest (requests.Read r) = IsReadRequest r
 IsLawfulRequest (requests.Write r) = IsWriteRequest r
+IsLawfulRequest (requests.TypeOf r) = Unit {0}
 IsLawfulRequest (requests.Define r) = IsDefine r
 IsLawfulRequest (requests.MembersOf r) = Unit {0}
 IsLawfulRequest (requests.Delete r) = IsDelete r
@@ -32,6 +34,7 @@ IsLawfulResponse (responses.NameList r) = IsNamedResponse r
 IsLawfulResponse responses.Identify = Unit {0}
 IsLawfulResponse (responses.Read r) = IsReadResponse r
 IsLawfulResponse (responses.Write r) = Unit {0}
+IsLawfulResponse (responses.TypeIs r) = IsTyped r
 IsLawfulResponse responses.Define = Unit {0}
 IsLawfulResponse (responses.MembersOf r) = IsMembers r
 IsLawfulResponse (responses.Delete r) = Unit {0}

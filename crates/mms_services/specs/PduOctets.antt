@@ -12,6 +12,7 @@ use Rattle.mms_services.specs.Names.NameLists.{name_list_request_octets, name_li
 use Rattle.mms_services.specs.Identities.{identify_response_octets}
 use Rattle.mms_services.specs.Access.Reads.{read_request_octets, read_response_octets}
 use Rattle.mms_services.specs.Access.Writes.{write_request_octets, write_response_octets}
+use Rattle.mms_services.specs.Access.TypesOf.{type_request_octets, type_response_octets}
 use Rattle.mms_services.specs.Names.Defines.{define_request_octets}
 use Rattle.mms_services.specs.Names.MemberLists.{members_request_octets, members_response_octets}
 use Rattle.mms_services.specs.Names.Deletes.{delete_request_octets, delete_response_octets}
@@ -29,6 +30,7 @@ request_tag (requests.NameList r) = 161
 request_tag requests.Identify = 130
 request_tag (requests.Read r) = 164
 request_tag (requests.Write r) = 165
+request_tag (requests.TypeOf r) = 166
 request_tag (requests.Define r) = 171
 request_tag (requests.MembersOf r) = 172
 request_tag (requests.Delete r) = 173
@@ -39,6 +41,7 @@ request_contents (requests.NameList r) = name_list_request_octets r
 request_contents requests.Identify = []
 request_contents (requests.Read r) = read_request_octets r
 request_contents (requests.Write r) = write_request_octets r
+request_contents (requests.TypeOf r) = type_request_octets r
 request_contents (requests.Define r) = define_request_octets r
 request_contents (requests.MembersOf r) = members_request_octets r
 request_contents (requests.Delete r) = delete_request_octets r
@@ -54,6 +57,7 @@ response_tag (responses.NameList r) = 161
 response_tag responses.Identify = 162
 response_tag (responses.Read r) = 164
 response_tag (responses.Write r) = 165
+response_tag (responses.TypeIs r) = 166
 response_tag responses.Define = 139
 response_tag (responses.MembersOf r) = 172
 response_tag (responses.Delete r) = 173
@@ -63,6 +67,7 @@ response_contents (responses.NameList r) = name_list_response_octets r
 response_contents responses.Identify = identify_response_octets
 response_contents (responses.Read r) = read_response_octets r
 response_contents (responses.Write r) = write_response_octets r
+response_contents (responses.TypeIs r) = type_response_octets r
 response_contents responses.Define = []
 response_contents (responses.MembersOf r) = members_response_octets r
 response_contents (responses.Delete r) = delete_response_octets r

@@ -8,6 +8,7 @@ use Rattle.mms_services.specs.Names.NameLists.{name_list_request}
 use Rattle.mms_services.specs.Identities.{identify_request}
 use Rattle.mms_services.specs.Access.Reads.{read_request}
 use Rattle.mms_services.specs.Access.Writes.{write_request}
+use Rattle.mms_services.specs.Access.TypesOf.{type_request}
 use Rattle.mms_services.specs.Names.Defines.{define_request}
 use Rattle.mms_services.specs.Names.MemberLists.{members_request}
 use Rattle.mms_services.specs.Names.Deletes.{delete_request}
@@ -31,4 +32,5 @@ one_request =
     (choose_in 130 (contents_as (λ u. services.Identify) identify_request)
     (choose_in 164 (contents_as services.Read read_request)
     (choose_in 165 (contents_as services.Write write_request)
-    set_request)))
+    (choose_in 166 (contents_as services.TypeOf type_request)
+    set_request))))

@@ -9,6 +9,7 @@ use Rattle.mms_services.specs.Names.NameLists.{name_list_response}
 use Rattle.mms_services.specs.Identities.{identify_response}
 use Rattle.mms_services.specs.Access.Reads.{read_response}
 use Rattle.mms_services.specs.Access.Writes.{write_response}
+use Rattle.mms_services.specs.Access.TypesOf.{type_response}
 use Rattle.mms_services.specs.Names.MemberLists.{members_response}
 use Rattle.mms_services.specs.Names.Deletes.{delete_response}
 
@@ -26,4 +27,5 @@ one_response =
     (choose_in 162 (contents_as (λ u. services.Identify) identify_response)
     (choose_in 164 (contents_as services.Read read_response)
     (choose_in 165 (contents_as services.Write write_response)
-    set_response)))
+    (choose_in 166 (contents_as services.TypeIs type_response)
+    set_response))))

@@ -266,7 +266,7 @@ fn put_last(out: &mut Vec<u8>) -> Result<(), AllocError>
         SERVICES,
         12,
         3,
-        0x6C,
+        0x6E,
         0x1C,
         0,
         0,

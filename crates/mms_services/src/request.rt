@@ -15,8 +15,9 @@ ghost use Rattle.mms_services.specs.Requests.{unknown_request, set_request};
 ghost use Rattle.mms_services.specs.Requests.{one_request};
 
 use crate::access::{
-    ReadRequest, WriteRequest, put_read_request, put_write_request, read_request_from,
-    read_request_len, write_request_from, write_request_len,
+    ReadRequest, TypeRequest, WriteRequest, put_read_request, put_type_request, put_write_request,
+    read_request_from, read_request_len, type_request_from, type_request_len, write_request_from,
+    write_request_len,
 };
 use crate::identify::identify_request_from;
 use crate::names::{
@@ -42,6 +43,8 @@ pub enum Request {
     Read(ReadRequest),
     /// That variables get values.
     Write(WriteRequest),
+    /// The type of a variable.
+    TypeOf(TypeRequest),
     /// That a named variable list be defined.
     Define(DefineRequest),
     /// The members of a named variable list.
@@ -60,6 +63,8 @@ const IDENTIFY: u8 = 0x82;
 const READ: u8 = 0xA4;
 
 const WRITE: u8 = 0xA5;
+
+const TYPE_OF: u8 = 0xA6;
 
 const DEFINE: u8 = 0xAB;
 
@@ -99,6 +104,11 @@ pub(crate) fn take_request(
         let part = take_part(octets, at, WRITE)?;
         let request = write_request_from(alloc, &part)?;
         return Ok((Request::Write(request), part.head.next));
+    }
+    if has_tag(octets, TYPE_OF) {
+        let part = take_part(octets, at, TYPE_OF)?;
+        let request = type_request_from(alloc, &part)?;
+        return Ok((Request::TypeOf(request), part.head.next));
     }
     take_set_request(alloc, octets, at)
 }
@@ -155,6 +165,7 @@ fn request_tag(request: &Request) -> u8
         Request::Identify => IDENTIFY,
         Request::Read(_) => READ,
         Request::Write(_) => WRITE,
+        Request::TypeOf(_) => TYPE_OF,
         Request::Define(_) => DEFINE,
         Request::MembersOf(_) => MEMBERS,
         Request::Delete(_) => DELETE,
@@ -173,6 +184,7 @@ fn contents_len(request: &Request) -> usize
         Request::Identify => 0,
         Request::Read(request) => read_request_len(request),
         Request::Write(request) => write_request_len(request),
+        Request::TypeOf(request) => type_request_len(request),
         Request::Define(request) => define_request_len(request),
         Request::MembersOf(request) => members_request_len(request),
         Request::Delete(request) => delete_request_len(request),
@@ -214,6 +226,7 @@ fn put_contents(out: &mut Vec<u8>, request: &Request) -> Result<(), AllocError>
         Request::Identify => Ok(()),
         Request::Read(request) => put_read_request(out, request),
         Request::Write(request) => put_write_request(out, request),
+        Request::TypeOf(request) => put_type_request(out, request),
         Request::Define(request) => put_define_request(out, request),
         Request::MembersOf(request) => put_members_request(out, request),
         Request::Delete(request) => put_delete_request(out, request),

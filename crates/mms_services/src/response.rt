@@ -12,8 +12,9 @@ ghost use Rattle.ber_values.specs.Readers.{taken_from};
 ghost use Rattle.mms_services.specs.Responses.{set_response, one_response};
 
 use crate::access::{
-    ReadResponse, WriteResponse, put_read_response, put_write_response, read_response_from,
-    read_response_len, write_response_from, write_response_len,
+    ReadResponse, TypeResponse, WriteResponse, put_read_response, put_type_response,
+    put_write_response, read_response_from, read_response_len, type_response_from,
+    type_response_len, write_response_from, write_response_len,
 };
 use crate::identify::{IDENTIFY_RESPONSE_LEN, identify_response_from, put_identify_response};
 use crate::names::{
@@ -35,6 +36,8 @@ pub enum Response {
     Read(ReadResponse),
     /// What came of writing variables.
     Write(WriteResponse),
+    /// The type of a variable.
+    TypeIs(TypeResponse),
     /// The named variable list is defined.
     Define,
     /// The members of a named variable list.
@@ -51,6 +54,8 @@ const IDENTIFY: u8 = 0xA2;
 const READ: u8 = 0xA4;
 
 const WRITE: u8 = 0xA5;
+
+const TYPE_IS: u8 = 0xA6;
 
 const DEFINE: u8 = 0x8B;
 
@@ -91,6 +96,11 @@ pub(crate) fn take_response(
         let response = write_response_from(alloc, &part)?;
         return Ok((Response::Write(response), part.head.next));
     }
+    if has_tag(octets, TYPE_IS) {
+        let part = take_part(octets, at, TYPE_IS)?;
+        let response = type_response_from(alloc, &part)?;
+        return Ok((Response::TypeIs(response), part.head.next));
+    }
     take_set_response(alloc, octets, at)
 }
 
@@ -127,6 +137,7 @@ fn response_tag(response: &Response) -> u8
         Response::Identify => IDENTIFY,
         Response::Read(_) => READ,
         Response::Write(_) => WRITE,
+        Response::TypeIs(_) => TYPE_IS,
         Response::Define => DEFINE,
         Response::MembersOf(_) => MEMBERS,
         Response::Delete(_) => DELETE,
@@ -144,6 +155,7 @@ fn contents_len(response: &Response) -> usize
         Response::Identify => identify_len(),
         Response::Read(response) => read_response_len(response),
         Response::Write(response) => write_response_len(response),
+        Response::TypeIs(response) => type_response_len(response),
         Response::Define => 0,
         Response::MembersOf(response) => members_response_len(response),
         Response::Delete(response) => delete_response_len(response),
@@ -193,6 +205,7 @@ fn put_contents(out: &mut Vec<u8>, response: &Response) -> Result<(), AllocError
         Response::Identify => put_identify_response(out),
         Response::Read(response) => put_read_response(out, response),
         Response::Write(response) => put_write_response(out, response),
+        Response::TypeIs(response) => put_type_response(out, response),
         Response::Define => Ok(()),
         Response::MembersOf(response) => put_members_response(out, response),
         Response::Delete(response) => put_delete_response(out, response),

@@ -12,7 +12,7 @@ pub sole_name_contents : IsContentsGrammar sole_name
 unfolding sole_name
 sole_name_contents = all_reads _ one_name_reads
 
-sole_variable_contents : IsContentsGrammar sole_variable
+pub sole_variable_contents : IsContentsGrammar sole_variable
 unfolding sole_variable
 sole_variable_contents = all_reads _ (part_reads 160 _ sole_name_contents)
 

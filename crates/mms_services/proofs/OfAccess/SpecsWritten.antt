@@ -20,7 +20,8 @@ pub sole_name-spelled : (at : ℕ) (n : ObjectName) → IsName n → sole_name.s
 unfolding sole_name
 sole_name-spelled at n named = all-spelled one_name at n (name_octets n) (ends_of one_name at n (name_octets n) (one_name_begins n named at))
 
-sole_variable-spelled : (at : ℕ) (n : ObjectName) → IsName n → sole_variable.spells at n (written 160 (name_octets n))
+pub sole_variable-spelled : (at : ℕ) (n : ObjectName) → IsName n
+    → sole_variable.spells at n (written 160 (name_octets n))
 unfolding sole_variable
 sole_variable-spelled at n named =
     let g = part_in 160 sole_name in

@@ -23,6 +23,11 @@ use Rattle.mms_services.specs.Access.Specifications.{sole_name, variables, speci
 use Rattle.mms_services.specs.Access.Reads.{read_asked, read_answered, echo_in, read_request, read_response, IsSpecIfAny, IsReadRequest, IsReadResponse}
 use Rattle.mms_services.specs.Access.Writes.{write_asked, values_of, write_request, HasValues, IsWriteRequest}
 use Rattle.mms_services.specs.Access.Reports.{reported, report_results, report, report_pdu, HasResults, IsReport}
+use Rattle.mms_data.specs.Types.TypeShape.{TypeShape, IsTypeShape}
+use Rattle.mms_data.specs.Types.ShapeOctets.{one_shape, sole_shape}
+use Rattle.mms_data.proofs.OfTypes.ShapesLawful.{shape_lawful}
+use Rattle.mms_services.specs.declared.access.type_of.TypeResponse.{TypeResponse}
+use Rattle.mms_services.specs.Access.TypesOf.{type_told, type_response, IsTyped}
 use Rattle.ber_values.proofs.Holding.{part-holds, choose-holds, maybe-holds, map-holds, as-holds, all-holds, list-holds}
 
 -- ---- specifications
@@ -108,3 +113,16 @@ report-holds = all-holds IsReport (then_in specification (λ spec. map_in (repor
 pub report_pdu-holds : (at : ℕ) (r : ReportPdu) (os : List ℕ) → report_pdu.spells at r os → IsReport r
 unfolding report_pdu
 report_pdu-holds = all-holds IsReport (part_in 160 report) (λ at os t. part-holds IsReport 160 report at os t report-holds)
+
+-- ---- types
+
+shape-holds : (at : ℕ) (s : TypeShape) (os : List ℕ) → sole_shape.spells at s os → IsTypeShape s
+unfolding sole_shape
+shape-holds = all-holds IsTypeShape one_shape shape_lawful
+
+pub type_response-holds : (at : ℕ) (r : TypeResponse) (os : List ℕ)
+    → type_response.spells at r os → IsTyped r
+unfolding type_response then_in
+type_response-holds = all-holds IsTyped _ (λ at os t b.
+    map-holds IsTyped type_told (part_in 162 sole_shape) b.2.0.next b.2.0.rest t
+    (λ u. part-holds IsTypeShape 162 sole_shape b.2.0.next b.2.0.rest u shape-holds) b.2.2)

@@ -90,7 +90,7 @@ fn take_variable(alloc: Global, octets: &[u8], at: usize) -> Result<(Name, usize
 
 /// The variable that the contents of an element are, by its name.
 #[tactic(auto, unfolding(crate::specs::Access::Specifications::sole_variable, ber_values::specs::Parts::part_in, ber_values::specs::Parts::all_in))]
-fn variable_from(alloc: Global, part: &Part<'_>) -> Result<Name, Stop>
+pub(crate) fn variable_from(alloc: Global, part: &Part<'_>) -> Result<Name, Stop>
     requires { part.now.head.body + length part.now.contents.now < 2 ^ 64 }
     ensures { Answers (λ n. n) result (sole_variable.reading part.now.head part.now.contents.now) }
 {

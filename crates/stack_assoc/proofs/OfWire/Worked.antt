@@ -24,7 +24,7 @@ titled_connect : wire 1024 (connect_tsdu (Some (41 ∷ 135 ∷ 103 ∷ 1 ∷ [])
     ∷ 2 ∷ 1 ∷ 48 ∷ 4 ∷ 6 ∷ 2 ∷ 81 ∷ 1 ∷ 97 ∷ 75 ∷ 48 ∷ 73 ∷ 2 ∷ 1 ∷ 1 ∷ 160 ∷ 68 ∷ 96 ∷ 66 ∷ 161
     ∷ 7 ∷ 6 ∷ 5 ∷ 40 ∷ 202 ∷ 34 ∷ 2 ∷ 3 ∷ 166 ∷ 6 ∷ 6 ∷ 4 ∷ 41 ∷ 135 ∷ 103 ∷ 1 ∷ 190 ∷ 47 ∷ 40
     ∷ 45 ∷ 2 ∷ 1 ∷ 3 ∷ 160 ∷ 40 ∷ 168 ∷ 38 ∷ 128 ∷ 3 ∷ 0 ∷ 253 ∷ 232 ∷ 129 ∷ 1 ∷ 1 ∷ 130 ∷ 1 ∷ 1
-    ∷ 131 ∷ 1 ∷ 5 ∷ 164 ∷ 22 ∷ 128 ∷ 1 ∷ 1 ∷ 129 ∷ 3 ∷ 5 ∷ 225 ∷ 0 ∷ 130 ∷ 12 ∷ 3 ∷ 108 ∷ 28 ∷ 0
+    ∷ 131 ∷ 1 ∷ 5 ∷ 164 ∷ 22 ∷ 128 ∷ 1 ∷ 1 ∷ 129 ∷ 3 ∷ 5 ∷ 225 ∷ 0 ∷ 130 ∷ 12 ∷ 3 ∷ 110 ∷ 28 ∷ 0
     ∷ 0 ∷ 0 ∷ 0 ∷ 0 ∷ 0 ∷ 0 ∷ 1 ∷ 16 ∷ []
 unfolding wire session.session_length_octets ber.length_octets ber.integer_octets presentation.user_octets connect_tsdu presentation.set_up_octets presentation.mode_octets presentation.connect_ppdu_octets presentation.calling_octets presentation.offers_octets presentation.offer_octets presentation.offered_octets presentation.ber_octets pdu_octets initiate_octets later_octets last_octets initiate_detail_octets
 titled_connect = refl
@@ -37,7 +37,7 @@ bare_connect : wire 1024 (connect_tsdu None) ≡
     ∷ 1 ∷ 48 ∷ 4 ∷ 6 ∷ 2 ∷ 81 ∷ 1 ∷ 97 ∷ 67 ∷ 48 ∷ 65 ∷ 2 ∷ 1 ∷ 1 ∷ 160 ∷ 60 ∷ 96 ∷ 58 ∷ 161 ∷ 7
     ∷ 6 ∷ 5 ∷ 40 ∷ 202 ∷ 34 ∷ 2 ∷ 3 ∷ 190 ∷ 47 ∷ 40 ∷ 45 ∷ 2 ∷ 1 ∷ 3 ∷ 160 ∷ 40 ∷ 168 ∷ 38 ∷ 128
     ∷ 3 ∷ 0 ∷ 253 ∷ 232 ∷ 129 ∷ 1 ∷ 1 ∷ 130 ∷ 1 ∷ 1 ∷ 131 ∷ 1 ∷ 5 ∷ 164 ∷ 22 ∷ 128 ∷ 1 ∷ 1 ∷ 129
-    ∷ 3 ∷ 5 ∷ 225 ∷ 0 ∷ 130 ∷ 12 ∷ 3 ∷ 108 ∷ 28 ∷ 0 ∷ 0 ∷ 0 ∷ 0 ∷ 0 ∷ 0 ∷ 0 ∷ 1 ∷ 16 ∷ []
+    ∷ 3 ∷ 5 ∷ 225 ∷ 0 ∷ 130 ∷ 12 ∷ 3 ∷ 110 ∷ 28 ∷ 0 ∷ 0 ∷ 0 ∷ 0 ∷ 0 ∷ 0 ∷ 0 ∷ 1 ∷ 16 ∷ []
 unfolding wire session.session_length_octets ber.length_octets ber.integer_octets presentation.user_octets connect_tsdu presentation.set_up_octets presentation.mode_octets presentation.connect_ppdu_octets presentation.calling_octets presentation.offers_octets presentation.offer_octets presentation.offered_octets presentation.ber_octets pdu_octets initiate_octets later_octets last_octets initiate_detail_octets
 bare_connect = refl
 
@@ -68,7 +68,7 @@ accepted : wire 1024 (accept_tsdu setup granted) ≡
     ∷ 81 ∷ 1 ∷ 97 ∷ 79 ∷ 48 ∷ 77 ∷ 2 ∷ 1 ∷ 1 ∷ 160 ∷ 72 ∷ 97 ∷ 70 ∷ 161 ∷ 7 ∷ 6 ∷ 5 ∷ 40 ∷ 202
     ∷ 34 ∷ 2 ∷ 3 ∷ 162 ∷ 3 ∷ 2 ∷ 1 ∷ 0 ∷ 163 ∷ 5 ∷ 161 ∷ 3 ∷ 2 ∷ 1 ∷ 0 ∷ 190 ∷ 47 ∷ 40 ∷ 45 ∷ 2
     ∷ 1 ∷ 3 ∷ 160 ∷ 40 ∷ 169 ∷ 38 ∷ 128 ∷ 3 ∷ 0 ∷ 253 ∷ 232 ∷ 129 ∷ 1 ∷ 5 ∷ 130 ∷ 1 ∷ 5 ∷ 131 ∷ 1
-    ∷ 5 ∷ 164 ∷ 22 ∷ 128 ∷ 1 ∷ 1 ∷ 129 ∷ 3 ∷ 5 ∷ 225 ∷ 0 ∷ 130 ∷ 12 ∷ 3 ∷ 108 ∷ 28 ∷ 0 ∷ 0 ∷ 0 ∷ 0
+    ∷ 5 ∷ 164 ∷ 22 ∷ 128 ∷ 1 ∷ 1 ∷ 129 ∷ 3 ∷ 5 ∷ 225 ∷ 0 ∷ 130 ∷ 12 ∷ 3 ∷ 110 ∷ 28 ∷ 0 ∷ 0 ∷ 0 ∷ 0
     ∷ 0 ∷ 0 ∷ 0 ∷ 1 ∷ 16 ∷ []
 unfolding wire session.session_length_octets ber.length_octets ber.integer_octets presentation.user_octets setup granted accept_tsdu presentation.set_up_octets presentation.mode_octets presentation.accept_ppdu_octets presentation.results_octets presentation.accepted_octets pdu_octets initiate_octets later_octets last_octets initiate_detail_octets
 accepted = refl
