@@ -7,6 +7,7 @@ pub mod NothingMade
 pub mod KeyNumbers
 pub mod InForce
 pub mod OwnDevices
+pub mod TypedObjects
 pub mod DevicesSeen
 pub mod OpenKeys
 pub mod Seated
@@ -24,3 +25,4 @@ mod WorkedSets
 mod WorkedPlant
 mod WorkedForce
 mod WorkedEvents
+mod WorkedTypes

@@ -127,7 +127,7 @@ read_is : (P : OwnDevice → Type 0) (object : Object) (deed : Deed)
     → read_deed object ≡ Some deed → OfDevice P object → P deed.device
 read_is P (selection d) deed e there =
     subst P (one_device (record { device = d; act = selecting }) deed e) there
-read_is P (constant v) deed e there = absurd cc
+read_is P (constant v shape) deed e there = absurd cc
 read_is P next_transfer_set deed e there = absurd cc
 read_is P (report_variable v) deed e there = absurd cc
 read_is P (indication_point p) deed e there = absurd cc
@@ -166,7 +166,7 @@ write_is : (P : OwnDevice → Type 0) (value : Datum) (object : Object) (deed : 
     → write_deed value object ≡ Some deed → OfDevice P object → P deed.device
 write_is P value (control_point d) deed e there = operate_is P d (number_in value) deed e there
 write_is P value (device_tag d) deed e there = tag_is P d (tag_in value) deed e there
-write_is P value (constant v) deed e there = absurd cc
+write_is P value (constant v shape) deed e there = absurd cc
 write_is P value next_transfer_set deed e there = absurd cc
 write_is P value (report_variable v) deed e there = absurd cc
 write_is P value (indication_point p) deed e there = absurd cc

@@ -11,7 +11,7 @@ use Rattle.sbo_device.specs.declared.key.Key.{Key}
 use Rattle.sbo_device.specs.States.{same_key}
 use Rattle.tase_views.specs.declared.call.CallKind.{CallKind}
 use Rattle.tase_views.specs.declared.call.CallKind.TheVariants.{Identify, Read, ReadSet, Write}
-use Rattle.tase_views.specs.declared.call.CallKind.TheVariants.{WriteSet, NameList, Define}
+use Rattle.tase_views.specs.declared.call.CallKind.TheVariants.{WriteSet, NameList, TypeOf, Define}
 use Rattle.tase_views.specs.declared.call.CallKind.TheVariants.{MembersOf, Delete, DeleteScope, Odd}
 use Rattle.tase_views.specs.declared.event.EventKind.{EventKind}
 use Rattle.tase_views.specs.declared.event.EventKind.TheVariants.{Open, Request, Take, Close}
@@ -178,6 +178,7 @@ call_quiet (Write names values) =
     quiet_reversed (writes_of names values) (writes_quiet names values)
 call_quiet (WriteSet set values) = (tt, tt)
 call_quiet (NameList class scope after) = (tt, tt)
+call_quiet (TypeOf name) = (tt, tt)
 call_quiet (Define set members) = (tt, tt)
 call_quiet (MembersOf set) = (tt, tt)
 call_quiet (Delete sets) = quiet_reversed (map deletes sets) (deletes_quiet sets)

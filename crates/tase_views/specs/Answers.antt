@@ -19,7 +19,7 @@ use Rattle.transfer_sets.specs.SlotMoves.{last_wish}
 use Rattle.transfer_sets.specs.WishData.{shown_wish}
 use Rattle.tase_views.specs.declared.call.CallKind.{CallKind}
 use Rattle.tase_views.specs.declared.call.CallKind.TheVariants.{Identify, Read, ReadSet, Write}
-use Rattle.tase_views.specs.declared.call.CallKind.TheVariants.{WriteSet, NameList, Define}
+use Rattle.tase_views.specs.declared.call.CallKind.TheVariants.{WriteSet, NameList, TypeOf, Define}
 use Rattle.tase_views.specs.declared.call.CallKind.TheVariants.{MembersOf, Delete, DeleteScope, Odd}
 use Rattle.tase_views.specs.declared.reply.ReadSpec.{ReadSpec}
 use Rattle.tase_views.specs.declared.reply.ReadSpec.TheVariants as specs
@@ -35,6 +35,7 @@ use Rattle.tase_views.specs.OwnTables.{OwnPoint, OwnDevice, OwnTable, OwnTables,
 use Rattle.tase_views.specs.Objects.{Object, constant, next_transfer_set, indication_point}
 use Rattle.tase_views.specs.Objects.{control_point, selection, device_tag, transfer_set}
 use Rattle.tase_views.specs.Objects.{transfer_set_status, slot_item, objects, object_named}
+use Rattle.tase_views.specs.Shapes.{type_replied}
 use Rattle.tase_views.specs.NameLists.{names_listed}
 use Rattle.tase_views.specs.Moves.{reads, writes}
 use Rattle.tase_views.specs.Devices.{number_in, tag_in}
@@ -119,7 +120,7 @@ module _ (tables : OwnTables) where
   -- read; any other name does not exist
   abbrev pub object_read : View → ℕ → Option Object → Outcome
   object_read view ordinal None = Fail OBJECT_NON_EXISTENT
-  object_read view ordinal (Some (constant value)) = Good value
+  object_read view ordinal (Some (constant value shape)) = Good value
   object_read view ordinal (Some (indication_point point)) = outcome_of_point view point
   object_read view ordinal (Some next_transfer_set) =
       let table = held tables view in
@@ -197,6 +198,7 @@ module _ (tables : OwnTables) where
   reply_to view ordinal (NameList class scope after) =
       let table = held tables view in
       names_listed table (objects table) (set_names view) class scope after
+  reply_to view ordinal (TypeOf name) = type_replied (object_named (held tables view) name)
   reply_to view ordinal (Define set members) =
       define_replied (define_fault (held tables view) (sets_in tables view) view set members)
   reply_to view ordinal (MembersOf set) = set_replied MembersAre (members_of tables view set)

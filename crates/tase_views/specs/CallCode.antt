@@ -10,7 +10,7 @@ use Rattle.mms_data.specs.declared.object_name.Scope.{Scope}
 use Rattle.mms_data.specs.ObjectName.{ObjectName}
 use Rattle.tase_views.specs.declared.call.CallKind.{CallKind}
 use Rattle.tase_views.specs.declared.call.CallKind.TheVariants.{Identify, Read, ReadSet, Write}
-use Rattle.tase_views.specs.declared.call.CallKind.TheVariants.{WriteSet, NameList, Define}
+use Rattle.tase_views.specs.declared.call.CallKind.TheVariants.{WriteSet, NameList, TypeOf, Define}
 use Rattle.tase_views.specs.declared.call.CallKind.TheVariants.{MembersOf, Delete, DeleteScope, Odd}
 use Rattle.tase_views.specs.Codes.{scope_code, name_code}
 
@@ -24,19 +24,21 @@ SetParts =
 abbrev pub CallParts : Type 0
 CallParts =
     Unit {0} ⊎ ((List ObjectName × Bool) ⊎ ((List ObjectName × List Datum)
-    ⊎ ((ℤ × (Scope × Option (List ℕ))) ⊎ ((ℕ × ℕ) ⊎ SetParts))))
+    ⊎ ((ℤ × (Scope × Option (List ℕ))) ⊎ ((ℕ × ℕ) ⊎ (ObjectName ⊎ SetParts)))))
 
 abbrev pub call_parts : CallKind → CallParts
 call_parts Identify = inl tt
 call_parts (Read names echo) = inr (inl (names, echo))
-call_parts (ReadSet set echo) = inr (inr (inr (inr (inr (inl (set, echo))))))
+call_parts (ReadSet set echo) = inr (inr (inr (inr (inr (inr (inl (set, echo)))))))
 call_parts (Write names values) = inr (inr (inl (names, values)))
-call_parts (WriteSet set values) = inr (inr (inr (inr (inr (inr (inl (set, values)))))))
+call_parts (WriteSet set values) = inr (inr (inr (inr (inr (inr (inr (inl (set, values))))))))
 call_parts (NameList class scope after) = inr (inr (inr (inl (class, (scope, after)))))
-call_parts (Define set members) = inr (inr (inr (inr (inr (inr (inr (inl (set, members))))))))
-call_parts (MembersOf set) = inr (inr (inr (inr (inr (inr (inr (inr (inl set))))))))
-call_parts (Delete sets) = inr (inr (inr (inr (inr (inr (inr (inr (inr (inl sets)))))))))
-call_parts (DeleteScope scope) = inr (inr (inr (inr (inr (inr (inr (inr (inr (inr scope)))))))))
+call_parts (TypeOf name) = inr (inr (inr (inr (inr (inl name)))))
+call_parts (Define set members) = inr (inr (inr (inr (inr (inr (inr (inr (inl (set, members)))))))))
+call_parts (MembersOf set) = inr (inr (inr (inr (inr (inr (inr (inr (inr (inl set)))))))))
+call_parts (Delete sets) = inr (inr (inr (inr (inr (inr (inr (inr (inr (inr (inl sets))))))))))
+call_parts (DeleteScope scope) =
+    inr (inr (inr (inr (inr (inr (inr (inr (inr (inr (inr scope))))))))))
 call_parts (Odd kind code) = inr (inr (inr (inr (inl (kind, code)))))
 
 abbrev pub set_call_from : SetParts → CallKind
@@ -53,7 +55,8 @@ call_from (inr (inl p)) = Read p.0 p.1
 call_from (inr (inr (inl p))) = Write p.0 p.1
 call_from (inr (inr (inr (inl p)))) = NameList p.0 p.1.0 p.1.1
 call_from (inr (inr (inr (inr (inl p))))) = Odd p.0 p.1
-call_from (inr (inr (inr (inr (inr p))))) = set_call_from p
+call_from (inr (inr (inr (inr (inr (inl name)))))) = TypeOf name
+call_from (inr (inr (inr (inr (inr (inr p)))))) = set_call_from p
 
 pub call_from-parts : (c : CallKind) → call_from (call_parts c) ≡ c
 call_from-parts Identify = refl
@@ -62,6 +65,7 @@ call_from-parts (ReadSet set echo) = refl
 call_from-parts (Write names values) = refl
 call_from-parts (WriteSet set values) = refl
 call_from-parts (NameList class scope after) = refl
+call_from-parts (TypeOf name) = refl
 call_from-parts (Define set members) = refl
 call_from-parts (MembersOf set) = refl
 call_from-parts (Delete sets) = refl
@@ -82,5 +86,5 @@ call_code =
     (coded⊎ (coded× (coded_list name_code) coded_bool)
     (coded⊎ (coded× (coded_list name_code) (coded_list datum_code))
     (coded⊎ (coded× coded_ℤ (coded× scope_code (coded_option (coded_list coded_ℕ))))
-    (coded⊎ (coded× coded_ℕ coded_ℕ) set_parts_code)))))
+    (coded⊎ (coded× coded_ℕ coded_ℕ) (coded⊎ name_code set_parts_code))))))
     call_parts call_from call_from-parts

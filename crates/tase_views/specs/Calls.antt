@@ -5,7 +5,7 @@ use Rattle.mms_data.specs.Lawful.{IsLawful}
 use Rattle.mms_data.specs.ObjectName.{IsScope, IsIdentifier}
 use Rattle.tase_views.specs.declared.call.CallKind.{CallKind}
 use Rattle.tase_views.specs.declared.call.CallKind.TheVariants.{Identify, Read, ReadSet, Write}
-use Rattle.tase_views.specs.declared.call.CallKind.TheVariants.{WriteSet, NameList, Define}
+use Rattle.tase_views.specs.declared.call.CallKind.TheVariants.{WriteSet, NameList, TypeOf, Define}
 use Rattle.tase_views.specs.declared.call.CallKind.TheVariants.{MembersOf, Delete, DeleteScope, Odd}
 
 -- a list of names has a name, a write has as many lawful values as names, and one of a data set at
@@ -19,6 +19,7 @@ IsCall (Write names values) =
 IsCall (ReadSet set echo) = Unit {0}
 IsCall (WriteSet set values) = (0 < length values) × All IsLawful values
 IsCall (NameList class scope after) = IsScope scope × IfSome after IsIdentifier
+IsCall (TypeOf name) = Unit {0}
 IsCall (Define set members) = 0 < length members
 IsCall (MembersOf set) = Unit {0}
 IsCall (Delete sets) = 0 < length sets

@@ -13,7 +13,7 @@ use Rattle.sbo_device.specs.Moves.{Tag}
 use Rattle.mms_data.specs.Text.Texts.{data_text, scope_text, name_text}
 use Rattle.tase_views.specs.declared.call.CallKind.{CallKind}
 use Rattle.tase_views.specs.declared.call.CallKind.TheVariants.{Identify, Read, ReadSet, Write}
-use Rattle.tase_views.specs.declared.call.CallKind.TheVariants.{WriteSet, NameList, Define}
+use Rattle.tase_views.specs.declared.call.CallKind.TheVariants.{WriteSet, NameList, TypeOf, Define}
 use Rattle.tase_views.specs.declared.call.CallKind.TheVariants.{MembersOf, Delete, DeleteScope, Odd}
 use Rattle.tase_views.specs.declared.event.EventKind.{EventKind}
 use Rattle.tase_views.specs.declared.event.EventKind.TheVariants.{Open, Request, Take, Close}
@@ -51,7 +51,8 @@ read_set_verb echo = if echo then codes "readset+" else codes "readset"
 
 -- `identify`, `read NAME ..`, `read+ NAME ..`, `readset NAME`, `readset+ NAME`,
 -- `write NAME=DATA ..`, `writeset NAME DATA ..`, `names CLASS SCOPE`, `names CLASS SCOPE AFTER`,
--- `define NAME MEMBER ..`, `members NAME`, `delete NAME ..`, `deletescope SCOPE` or `odd KIND CODE`
+-- `type NAME`, `define NAME MEMBER ..`, `members NAME`, `delete NAME ..`, `deletescope SCOPE` or
+-- `odd KIND CODE`
 abbrev pub call_text : CallKind → List ℕ
 call_text Identify = codes "identify"
 call_text (Read names echo) = read_verb echo ++ flat_map next_name names
@@ -61,6 +62,7 @@ call_text (WriteSet set values) =
     codes "writeset" ++ next_name set ++ flat_map next_value values
 call_text (NameList class scope after) =
     codes "names " ++ signed_decimal class ++ 32 ∷ scope_text scope ++ after_text after
+call_text (TypeOf name) = codes "type" ++ next_name name
 call_text (Define set members) =
     codes "define" ++ next_name set ++ flat_map next_name members
 call_text (MembersOf set) = codes "members" ++ next_name set

@@ -12,6 +12,7 @@ pub mod EventTexts
 pub mod Weights
 pub mod OwnTables
 pub mod Objects
+pub mod Shapes
 pub mod NameLists
 pub mod Force
 pub mod Devices

@@ -8,7 +8,7 @@ use Rattle.sbo_device.specs.declared.key.Key.{Key}
 use Rattle.sbo_device.specs.Moves.{Tag}
 use Rattle.tase_views.specs.declared.call.CallKind.{CallKind}
 use Rattle.tase_views.specs.declared.call.CallKind.TheVariants.{Identify, Read, ReadSet, Write}
-use Rattle.tase_views.specs.declared.call.CallKind.TheVariants.{WriteSet, NameList, Define}
+use Rattle.tase_views.specs.declared.call.CallKind.TheVariants.{WriteSet, NameList, TypeOf, Define}
 use Rattle.tase_views.specs.declared.call.CallKind.TheVariants.{MembersOf, Delete, DeleteScope, Odd}
 use Rattle.tase_views.specs.declared.event.EventKind.{EventKind}
 use Rattle.tase_views.specs.declared.event.EventKind.TheVariants.{Open, Request, Take, Close}
@@ -81,6 +81,7 @@ acts_of_call (ReadSet set echo) = calls (ReadSet set echo) ∷ []
 acts_of_call (Write names values) = reverse (writes_of names values)
 acts_of_call (WriteSet set values) = calls (WriteSet set values) ∷ []
 acts_of_call (NameList class scope after) = calls (NameList class scope after) ∷ []
+acts_of_call (TypeOf name) = calls (TypeOf name) ∷ []
 acts_of_call (Define set members) = defines set members ∷ []
 acts_of_call (MembersOf set) = calls (MembersOf set) ∷ []
 acts_of_call (Delete sets) = reverse (map deletes sets)

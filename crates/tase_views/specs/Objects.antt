@@ -5,6 +5,8 @@ use Rattle.std.specs.Prelude.{bytes_eq, codes, decimal}
 use Rattle.std.specs.List.{range_with_len}
 use Rattle.mms_data.specs.Datum.{Datum, integer, bits, text, structure, data_of}
 use Rattle.mms_data.specs.ObjectName.{ObjectName}
+use Rattle.mms_data.specs.Types.TypeShape.{TypeShape, bits_shape, int_shape, text_shape}
+use Rattle.mms_data.specs.Types.TypeShape.{structure_shape, shapes_of}
 use Rattle.tase_views.specs.OwnTables.{OwnPoint, OwnDevice, OwnTable, is_scope_of}
 
 -- what a report can tell of itself: its transfer set, its moment, its conditions, an event's code
@@ -14,11 +16,11 @@ pub data ReportVariable : Type 0 where
   conditions_detected : ReportVariable
   event_code : ReportVariable
 
--- what a name stands for: a value that never changes, the next transfer set, a report variable, an
--- indication point; of a device its control point, its selection, its tag, its time-out; a transfer
--- set, and its status
+-- what a name stands for: a value that never changes, with its type, the next transfer set, a
+-- report variable, an indication point; of a device its control point, its selection, its tag, its
+-- time-out; a transfer set, and its status
 pub data Object : Type 0 where
-  constant : Datum → Object
+  constant : Datum → TypeShape → Object
   next_transfer_set : Object
   report_variable : ReportVariable → Object
   indication_point : OwnPoint → Object
@@ -52,13 +54,23 @@ version = structure (data_of (integer (pos 2000) ∷ integer (pos 8) ∷ []))
 abbrev pub features : Datum
 features = bits (record { count = 12; octets = 200 ∷ 0 ∷ [] })
 
+-- the types of these two, and of the table's identifier
+abbrev pub version_shape : TypeShape
+version_shape = structure_shape (shapes_of (int_shape 16 ∷ int_shape 16 ∷ []))
+
+abbrev pub features_shape : TypeShape
+features_shape = bits_shape 12
+
+abbrev pub name_shape : TypeShape
+name_shape = text_shape 64
+
 -- the objects of the protocol itself: its version and features, the table's identifier, the report
 -- variables in both scopes
 abbrev pub special_objects : OwnTable → List NamedObject
 special_objects table =
-    named_by true (codes "TASE2_Version") (constant version)
-    ∷ named_by true (codes "Supported_Features") (constant features)
-    ∷ named_by false (codes "Bilateral_Table_ID") (constant (text table.id))
+    named_by true (codes "TASE2_Version") (constant version version_shape)
+    ∷ named_by true (codes "Supported_Features") (constant features features_shape)
+    ∷ named_by false (codes "Bilateral_Table_ID") (constant (text table.id) name_shape)
     ∷ report_variables true ++ report_variables false
 
 -- a table that offers no transfer sets has none to hand out

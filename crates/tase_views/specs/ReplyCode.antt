@@ -6,12 +6,15 @@ use base.Stored.{coded_unit}
 use Rattle.std.proofs.Common.{inl, inr}
 use Rattle.mms_data.specs.ObjectName.{ObjectName}
 use Rattle.mms_data.specs.declared.outcome.Outcome.{Outcome}
+use Rattle.mms_data.specs.Types.TypeShape.{TypeShape}
+use Rattle.mms_data.specs.Types.ShapeCode.{shape_code}
 use Rattle.tase_views.specs.declared.reply.ReadSpec.{ReadSpec}
 use Rattle.tase_views.specs.declared.reply.ReadSpec.TheVariants as specs
 use Rattle.tase_views.specs.declared.reply.ReplyKind.{ReplyKind}
 use Rattle.tase_views.specs.declared.reply.ReplyKind.TheVariants.{Identified, Results, Written}
-use Rattle.tase_views.specs.declared.reply.ReplyKind.TheVariants.{NamesAre, Defined, MembersAre}
-use Rattle.tase_views.specs.declared.reply.ReplyKind.TheVariants.{Deleted, Error, Reject}
+use Rattle.tase_views.specs.declared.reply.ReplyKind.TheVariants.{NamesAre, TypeIs, Defined}
+use Rattle.tase_views.specs.declared.reply.ReplyKind.TheVariants.{MembersAre, Deleted, Error}
+use Rattle.tase_views.specs.declared.reply.ReplyKind.TheVariants.{Reject}
 use Rattle.tase_views.specs.declared.reply.ReportKind.{ReportKind}
 use Rattle.tase_views.specs.declared.reply.ReportKind.TheVariants as reports
 use Rattle.tase_views.specs.Codes.{outcome_code, name_code}
@@ -40,17 +43,18 @@ SetReplyParts = Unit {0} ⊎ (List ObjectName ⊎ (ℕ × ℕ))
 abbrev pub ReplyParts : Type 0
 ReplyParts =
     Unit {0} ⊎ ((Option ReadSpec × List Outcome) ⊎ (List (Option ℕ)
-    ⊎ ((List (List ℕ) × Bool) ⊎ ((ℕ × ℕ) ⊎ ((ℕ × ℕ) ⊎ SetReplyParts)))))
+    ⊎ ((List (List ℕ) × Bool) ⊎ ((ℕ × ℕ) ⊎ ((ℕ × ℕ) ⊎ (TypeShape ⊎ SetReplyParts))))))
 
 abbrev pub reply_parts : ReplyKind → ReplyParts
 reply_parts Identified = inl tt
 reply_parts (Results spec results) = inr (inl (spec, results))
 reply_parts (Written results) = inr (inr (inl results))
 reply_parts (NamesAre names more) = inr (inr (inr (inl (names, more))))
-reply_parts Defined = inr (inr (inr (inr (inr (inr (inl tt))))))
-reply_parts (MembersAre names) = inr (inr (inr (inr (inr (inr (inr (inl names)))))))
+reply_parts (TypeIs shape) = inr (inr (inr (inr (inr (inr (inl shape))))))
+reply_parts Defined = inr (inr (inr (inr (inr (inr (inr (inl tt)))))))
+reply_parts (MembersAre names) = inr (inr (inr (inr (inr (inr (inr (inr (inl names))))))))
 reply_parts (Deleted matched deleted) =
-    inr (inr (inr (inr (inr (inr (inr (inr (matched, deleted))))))))
+    inr (inr (inr (inr (inr (inr (inr (inr (inr (matched, deleted)))))))))
 reply_parts (Error class code) = inr (inr (inr (inr (inl (class, code)))))
 reply_parts (Reject kind code) = inr (inr (inr (inr (inr (inl (kind, code))))))
 
@@ -66,13 +70,15 @@ reply_from (inr (inr (inl results))) = Written results
 reply_from (inr (inr (inr (inl p)))) = NamesAre p.0 p.1
 reply_from (inr (inr (inr (inr (inl p))))) = Error p.0 p.1
 reply_from (inr (inr (inr (inr (inr (inl p)))))) = Reject p.0 p.1
-reply_from (inr (inr (inr (inr (inr (inr p)))))) = set_reply_from p
+reply_from (inr (inr (inr (inr (inr (inr (inl shape))))))) = TypeIs shape
+reply_from (inr (inr (inr (inr (inr (inr (inr p))))))) = set_reply_from p
 
 pub reply_from-parts : (r : ReplyKind) → reply_from (reply_parts r) ≡ r
 reply_from-parts Identified = refl
 reply_from-parts (Results spec results) = refl
 reply_from-parts (Written results) = refl
 reply_from-parts (NamesAre names more) = refl
+reply_from-parts (TypeIs shape) = refl
 reply_from-parts Defined = refl
 reply_from-parts (MembersAre names) = refl
 reply_from-parts (Deleted matched deleted) = refl
@@ -89,7 +95,8 @@ reply_code =
     (coded⊎ (coded× (coded_option spec_code) (coded_list outcome_code))
     (coded⊎ (coded_list (coded_option coded_ℕ))
     (coded⊎ (coded× (coded_list (coded_list coded_ℕ)) coded_bool)
-    (coded⊎ (coded× coded_ℕ coded_ℕ) (coded⊎ (coded× coded_ℕ coded_ℕ) set_reply_code))))))
+    (coded⊎ (coded× coded_ℕ coded_ℕ)
+    (coded⊎ (coded× coded_ℕ coded_ℕ) (coded⊎ shape_code set_reply_code)))))))
     reply_parts reply_from reply_from-parts
 
 -- a data set or variables, and the outcomes

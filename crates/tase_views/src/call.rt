@@ -54,6 +54,10 @@ pub enum CallKind {
         /// The name after which the list goes on.
         after: Option<Visible>,
     },
+    /// The type of a variable.
+    TypeOf {
+        name: Name,
+    },
     /// Defines a data set of these members.
     Define {
         set: Name,
@@ -155,6 +159,9 @@ impl Clone for Call {
             CallKind::Define { set, members } => CallKind::Define {
                 set: set.clone()?,
                 members: members.clone()?,
+            },
+            CallKind::TypeOf { name } => CallKind::TypeOf {
+                name: name.clone()?,
             },
             CallKind::MembersOf { set } => CallKind::MembersOf { set: set.clone()? },
             CallKind::Delete { sets } => CallKind::Delete {

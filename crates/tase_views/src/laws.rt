@@ -19,9 +19,11 @@ ghost use Rattle.tase_views.specs.Moves.{Act, closes, Move, acts, updates, tags,
 ghost use Rattle.tase_views.specs.Moves.{takes_orders, EventSort, sort_of, feeding};
 ghost use Rattle.tase_views.specs.History.{Past, association_in, key_at, entries_by};
 ghost use Rattle.tase_views.specs.Seats.{reseated, IsInjective};
-ghost use Rattle.tase_views.specs.OwnTables.{OwnDevice, OwnTables, Owns, own_tables};
+ghost use Rattle.mms_data.specs.Types.TypeShape.{IsTypeShape};
+ghost use Rattle.tase_views.specs.OwnTables.{OwnDevice, OwnTable, OwnTables, Owns, own_tables};
 ghost use Rattle.tase_views.specs.OwnTables.{device_named, is_selectable, control_of};
-ghost use Rattle.tase_views.specs.Objects.{control_point, object_named};
+ghost use Rattle.tase_views.specs.Objects.{Object, control_point, object_named};
+ghost use Rattle.tase_views.specs.Shapes.{shape_of};
 ghost use Rattle.tase_views.specs.Devices.{Deed, deed_of, number_in, moment_of, device_moves};
 ghost use Rattle.tase_views.specs.View.{View, moves_in, held_in, seen_by, view_by, view_of, held};
 ghost use Rattle.tase_views.specs.View.{steps_in, moves_seen, peer_number};
@@ -165,6 +167,12 @@ pub fn nothing_is_made_without_offers()
     ensures { (tables : OwnTables) (view : View) (ordinal : ℕ)
         → All (λ table. (table.devices ≡ []) × (table.slots ≡ 0)) tables.tables
         → reports_pending tables view ordinal ≡ [] }
+{}
+
+/// The type of each object that a name stands for by a table is one that a peer may be told.
+pub fn types_may_be_told()
+    ensures { (table : OwnTable) (name : ObjectName) (object : Object)
+        → object_named table name ≡ Some object → IsTypeShape (shape_of object) }
 {}
 
 /// The conditions that are due at a tick are those that some whole multiple of a period, a change

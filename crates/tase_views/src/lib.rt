@@ -18,7 +18,8 @@ pub use fault::StepFault;
 pub use laws::{
     devices_are_seen_as_they_are, due_conditions_are_those, nothing_is_made_without_offers,
     orders_are_answered, orders_are_given_once, others_are_unseen, refusals_are_of_the_seat,
-    seats_are_unseen, two_worlds, unseen_moves_change_nothing, what_a_peer_is_not_shown,
+    seats_are_unseen, two_worlds, types_may_be_told, unseen_moves_change_nothing,
+    what_a_peer_is_not_shown,
 };
 pub use reply::{
     ACCESS_DENIED, ACCESS_ERRORS, Answer, DEFINITION_ERRORS, EXISTS, NAMES_LIMIT, NON_EXISTENT,

@@ -3,6 +3,7 @@ ghost use Rattle.tase_views.specs.Replies.{IsReply, IsReport};
 
 use ber_values::Visible;
 use item_list::ItemList;
+use mms_data::types::Shape;
 use mms_data::{Name, Names, Outcome};
 use sbo_device::{Key, Order};
 use std::marker::Model;
@@ -86,6 +87,8 @@ pub enum ReplyKind {
         names: ObjectNames,
         more: bool,
     },
+    /// To a request for the type of a variable.
+    TypeIs(Shape),
     /// To a definition: the data set is there now.
     Defined,
     /// To a request for the members of a data set.

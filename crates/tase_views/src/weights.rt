@@ -120,6 +120,7 @@ fn call_len(call: &Call) -> u64
         CallKind::Define { set, members } => {
             add_len(7 + name_text_len(set), names_len(members.as_slice()))
         }
+        CallKind::TypeOf { name } => 5 + name_text_len(name),
         CallKind::MembersOf { set } => 8 + name_text_len(set),
         CallKind::Delete { sets } => add_len(6, names_len(sets.as_slice())),
         CallKind::DeleteScope { scope } => 12 + signed_decimal_len(*scope),
