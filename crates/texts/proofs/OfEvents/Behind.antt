@@ -16,7 +16,7 @@ use Rattle.mms_data.specs.Text.TextRead.{HasText}
 use Rattle.mms_data.proofs.OfText.WordText.{chosen}
 use Rattle.tase_views.specs.declared.call.CallKind.{CallKind}
 use Rattle.tase_views.specs.declared.call.CallKind.TheVariants.{Identify, Read, ReadSet, Write}
-use Rattle.tase_views.specs.declared.call.CallKind.TheVariants.{WriteSet, NameList, Define}
+use Rattle.tase_views.specs.declared.call.CallKind.TheVariants.{WriteSet, NameList, TypeOf, Define}
 use Rattle.tase_views.specs.declared.call.CallKind.TheVariants.{MembersOf, Delete, DeleteScope, Odd}
 use Rattle.tase_views.specs.Calls.{IsCall}
 use Rattle.tase_views.specs.EventTexts.{read_verb, read_set_verb}
@@ -44,6 +44,7 @@ verb_of (ReadSet set false) = verbs.ReadSet
 verb_of (Write names values) = verbs.Write
 verb_of (WriteSet set values) = verbs.WriteSet
 verb_of (NameList class scope after) = verbs.NameList
+verb_of (TypeOf name) = verbs.TypeOf
 verb_of (Define set members) = verbs.Define
 verb_of (MembersOf set) = verbs.MembersOf
 verb_of (Delete sets) = verbs.Delete
@@ -57,6 +58,7 @@ others_of (ReadSet set echo) = name_text set ∷ []
 others_of (Write names values) = assigned_words names values
 others_of (WriteSet set values) = name_text set ∷ map data_text values
 others_of (NameList class scope after) = signed_decimal class ∷ scope_text scope ∷ after_words after
+others_of (TypeOf name) = name_text name ∷ []
 others_of (Define set members) = name_text set ∷ map name_text members
 others_of (MembersOf set) = name_text set ∷ []
 others_of (Delete sets) = map name_text sets
@@ -73,6 +75,7 @@ call_words-are (ReadSet set false) = refl
 call_words-are (Write names values) = refl
 call_words-are (WriteSet set values) = refl
 call_words-are (NameList class scope after) = refl
+call_words-are (TypeOf name) = refl
 call_words-are (Define set members) = refl
 call_words-are (MembersOf set) = refl
 call_words-are (Delete sets) = refl
@@ -87,6 +90,7 @@ verb_in-verb_text verbs.ReadEcho = refl
 verb_in-verb_text verbs.Write = refl
 verb_in-verb_text verbs.NameList = refl
 verb_in-verb_text verbs.Odd = refl
+verb_in-verb_text verbs.TypeOf = refl
 verb_in-verb_text verbs.ReadSet = refl
 verb_in-verb_text verbs.ReadSetEcho = refl
 verb_in-verb_text verbs.WriteSet = refl
@@ -129,7 +133,8 @@ verb_in-found word verb e =
     verb_or word verb verbs.Write (codes "write") _ refl k (λ k.
     verb_or word verb verbs.NameList (codes "names") _ refl k (λ k.
     verb_or word verb verbs.Odd (codes "odd") _ refl k (λ k.
-    set_verb_in-found word verb k))))))
+    verb_or word verb verbs.TypeOf (codes "type") _ refl k (λ k.
+    set_verb_in-found word verb k)))))))
 
 -- each name's text is a name's word
 names_each : (names : List ObjectName) → All IsName names → EachWord IsNameWord (map name_text names)
@@ -219,6 +224,7 @@ others-behind (Read names false) h k = names_are names h k
 others-behind (ReadSet set true) h k = (name_is set k, tt)
 others-behind (ReadSet set false) h k = (name_is set k, tt)
 others-behind (WriteSet set values) h k = (name_is set k.0, values_are values h.0 h.1 k.1)
+others-behind (TypeOf name) h k = (name_is name k, tt)
 others-behind (Define set members) h k = (name_is set k.0, names_are members h k.1)
 others-behind (MembersOf set) h k = (name_is set k, tt)
 others-behind (Delete sets) h k = names_are sets h k
@@ -401,6 +407,12 @@ behind-spells verbs.MembersOf (set ∷ []) b = (
   record { spelled = λ i. codes "members" ∷ b.0.spelled i ∷ []; lawful = tt; textual = b.0.named },
 )
 behind-spells verbs.MembersOf (set ∷ word ∷ words) b = absurd b.1
+behind-spells verbs.TypeOf [] b = absurd b
+behind-spells verbs.TypeOf (name ∷ []) b = (
+  TypeOf b.0.name,
+  record { spelled = λ i. codes "type" ∷ b.0.spelled i ∷ []; lawful = tt; textual = b.0.named },
+)
+behind-spells verbs.TypeOf (name ∷ word ∷ words) b = absurd b.1
 behind-spells verbs.Delete [] b = absurd b
 behind-spells verbs.Delete (word ∷ words) b =
     let first = b.0 in

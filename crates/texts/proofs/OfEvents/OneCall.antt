@@ -12,7 +12,7 @@ use Rattle.mms_data.specs.Text.Texts.{name_text, data_text}
 use Rattle.mms_data.specs.Text.TextRead.{HasText}
 use Rattle.tase_views.specs.declared.call.CallKind.{CallKind}
 use Rattle.tase_views.specs.declared.call.CallKind.TheVariants.{Identify, Read, ReadSet, Write}
-use Rattle.tase_views.specs.declared.call.CallKind.TheVariants.{WriteSet, NameList, Define}
+use Rattle.tase_views.specs.declared.call.CallKind.TheVariants.{WriteSet, NameList, TypeOf, Define}
 use Rattle.tase_views.specs.declared.call.CallKind.TheVariants.{MembersOf, Delete, DeleteScope, Odd}
 use Rattle.tase_views.specs.Calls.{IsCall}
 use Rattle.texts.specs.Events.CallWords.{assigned_words, after_words}
@@ -101,6 +101,7 @@ kind_number (Define set members) = 7
 kind_number (MembersOf set) = 8
 kind_number (Delete sets) = 9
 kind_number (DeleteScope scope) = 10
+kind_number (TypeOf name) = 11
 
 abbrev verb_number : Verb → ℕ
 verb_number verbs.Identify = 0
@@ -116,6 +117,7 @@ verb_number verbs.Define = 7
 verb_number verbs.MembersOf = 8
 verb_number verbs.Delete = 9
 verb_number verbs.DeleteScope = 10
+verb_number verbs.TypeOf = 11
 
 number-is : (call : CallKind) → verb_number (verb_of call) ≡ kind_number call
 number-is Identify = refl
@@ -131,6 +133,7 @@ number-is (Define set members) = refl
 number-is (MembersOf set) = refl
 number-is (Delete sets) = refl
 number-is (DeleteScope scope) = refl
+number-is (TypeOf name) = refl
 
 same_others : (a b : CallKind) → kind_number a ≡ kind_number b → verb_of a ≡ verb_of b
     → others_of a ≡ others_of b → IsCall a
@@ -169,6 +172,8 @@ same_others (Define a x) (Define b y) r v e h t k u =
     λ i. Define (set i) (members i)
 same_others (MembersOf a) (MembersOf b) r v e h t k u =
     ap MembersOf (same_name a b t u (ap first_word e))
+same_others (TypeOf a) (TypeOf b) r v e h t k u =
+    ap TypeOf (same_name a b t u (ap first_word e))
 same_others (Delete x) (Delete y) r v e h t k u = ap Delete (same_names x y t u e)
 same_others (DeleteScope a) (DeleteScope b) r v e h t k u =
     ap DeleteScope (same_class a b t u (ap first_word e))

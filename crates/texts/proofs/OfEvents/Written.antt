@@ -21,7 +21,7 @@ use Rattle.mms_data.specs.Text.Texts.{data_text, name_text, scope_text}
 use Rattle.mms_data.specs.Text.TextRead.{HasText}
 use Rattle.tase_views.specs.declared.call.CallKind.{CallKind}
 use Rattle.tase_views.specs.declared.call.CallKind.TheVariants.{Identify, Read, ReadSet, Write}
-use Rattle.tase_views.specs.declared.call.CallKind.TheVariants.{WriteSet, NameList, Define}
+use Rattle.tase_views.specs.declared.call.CallKind.TheVariants.{WriteSet, NameList, TypeOf, Define}
 use Rattle.tase_views.specs.declared.call.CallKind.TheVariants.{MembersOf, Delete, DeleteScope, Odd}
 use Rattle.tase_views.specs.Calls.{IsCall}
 use Rattle.tase_views.specs.EventTexts.{call_text, next_name, next_value, assigned_text}
@@ -77,6 +77,7 @@ call_text-is (ReadSet set true) = ap (λ t. codes "readset+" ++ t) (name-after s
 call_text-is (ReadSet set false) = ap (λ t. codes "readset" ++ t) (name-after set)
 call_text-is (WriteSet set values) =
     ap (λ t. codes "writeset" ++ t) (name-first set (flat_map next_value values) (map data_text values) (values-after values))
+call_text-is (TypeOf name) = ap (λ t. codes "type" ++ t) (name-after name)
 call_text-is (Define set members) =
     ap (λ t. codes "define" ++ t) (name-first set (flat_map next_name members) (map name_text members) (names-after members))
 call_text-is (MembersOf set) = ap (λ t. codes "members" ++ t) (name-after set)
@@ -182,6 +183,7 @@ others_printed Identify h k = tt
 others_printed (Read names echo) h k = names_printed names k
 others_printed (ReadSet set echo) h k = (name_printed set k, tt)
 others_printed (WriteSet set values) h k = (name_printed set k.0, values_printed values k.1)
+others_printed (TypeOf name) h k = (name_printed name k, tt)
 others_printed (Define set members) h k = (name_printed set k.0, names_printed members k.1)
 others_printed (MembersOf set) h k = (name_printed set k, tt)
 others_printed (Delete sets) h k = names_printed sets k
@@ -206,6 +208,7 @@ verb_printed verbs.NameList = record { some = omega arith; graphic = refl }
 verb_printed verbs.ReadSet = record { some = omega arith; graphic = refl }
 verb_printed verbs.ReadSetEcho = record { some = omega arith; graphic = refl }
 verb_printed verbs.WriteSet = record { some = omega arith; graphic = refl }
+verb_printed verbs.TypeOf = record { some = omega arith; graphic = refl }
 verb_printed verbs.Define = record { some = omega arith; graphic = refl }
 verb_printed verbs.MembersOf = record { some = omega arith; graphic = refl }
 verb_printed verbs.Delete = record { some = omega arith; graphic = refl }

@@ -27,7 +27,7 @@ use Rattle.mms_data.proofs.OfText.TextBreaks as breaks
 use Rattle.mms_data.proofs.OfText.WordText.{chosen}
 use Rattle.tase_views.specs.declared.call.CallKind.{CallKind}
 use Rattle.tase_views.specs.declared.call.CallKind.TheVariants.{Identify, Read, ReadSet, Write}
-use Rattle.tase_views.specs.declared.call.CallKind.TheVariants.{WriteSet, NameList, Define}
+use Rattle.tase_views.specs.declared.call.CallKind.TheVariants.{WriteSet, NameList, TypeOf, Define}
 use Rattle.tase_views.specs.declared.call.CallKind.TheVariants.{MembersOf, Delete, DeleteScope, Odd}
 use Rattle.tase_views.specs.EventTexts.{read_verb}
 use Rattle.texts.proofs.OfEvents.Behind.{one-is, five-is}
@@ -41,7 +41,8 @@ use Rattle.texts.proofs.OfJournal.CallParts.{assigned_in-word, class_in-found, c
 use Rattle.texts.proofs.OfJournal.CallParts.{scope_of_word-found, scope_of_word-text, after_in-found}
 use Rattle.texts.proofs.OfJournal.CallParts.{after_in-words, each_in-found, each_in-words}
 use Rattle.texts.proofs.OfJournal.CallParts.{if_some-found, if_some-whole}
-use Rattle.texts.proofs.OfJournal.SetCalls.{verb_is, set_call_in-found, read_set_in-words}
+use Rattle.texts.proofs.OfJournal.SetCalls.{verb_is, type_in-found, set_call_in-found}
+use Rattle.texts.proofs.OfJournal.SetCalls.{read_set_in-words, type_in-words}
 use Rattle.texts.proofs.OfJournal.SetCalls.{members_in-words, delete_in-words, define_in-words}
 use Rattle.texts.proofs.OfJournal.SetCalls.{write_set_in-words, delete_scope_in-words}
 
@@ -274,7 +275,9 @@ call_in-found (verb ∷ words) call e =
     (λ is p. verb_is verb (codes "identify") words call is (identify_in-found words call p))
     (λ other p. chosen (SpellsCall (verb ∷ words) call) call (bytes_eq verb (codes "odd")) _ _
     (λ is q. verb_is verb (codes "odd") words call is (odd_in-found words call q))
-    (λ other q. set_call_in-found verb words call q) p) o) n) m) k) e
+    (λ other q. chosen (SpellsCall (verb ∷ words) call) call (bytes_eq verb (codes "type")) _ _
+    (λ is r. verb_is verb (codes "type") words call is (type_in-found words call r))
+    (λ other r. set_call_in-found verb words call r) q) p) o) n) m) k) e
 
 pub call_in-words : (words : List (List ℕ)) (call : CallKind) → SpellsCall words call
     → call_in words ≡ Some call
@@ -293,6 +296,7 @@ call_in-words words (ReadSet set false) s =
 call_in-words words (WriteSet set values) s =
     ap call_in s.spelled
     ∙ write_set_in-words set values s.textual.0 s.lawful.0 s.textual.1
+call_in-words words (TypeOf name) s = ap call_in s.spelled ∙ type_in-words name s.textual
 call_in-words words (Define set members) s =
     ap call_in s.spelled ∙ define_in-words set members s.textual.0 s.lawful s.textual.1
 call_in-words words (MembersOf set) s = ap call_in s.spelled ∙ members_in-words set s.textual

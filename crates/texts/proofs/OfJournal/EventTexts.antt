@@ -25,7 +25,7 @@ use Rattle.tase_points.specs.Points.{state_of}
 use Rattle.tase_points.specs.declared.value.TheConstants.{STATE_LIMIT, FLAGS_LIMIT}
 use Rattle.tase_views.specs.declared.call.CallKind.{CallKind}
 use Rattle.tase_views.specs.declared.call.CallKind.TheVariants.{Identify, Read, ReadSet, Write}
-use Rattle.tase_views.specs.declared.call.CallKind.TheVariants.{WriteSet, NameList, Define}
+use Rattle.tase_views.specs.declared.call.CallKind.TheVariants.{WriteSet, NameList, TypeOf, Define}
 use Rattle.tase_views.specs.declared.call.CallKind.TheVariants.{MembersOf, Delete, DeleteScope, Odd}
 use Rattle.tase_views.specs.declared.event.Entry.{Entry}
 use Rattle.tase_views.specs.declared.event.EventKind.{EventKind}
@@ -135,6 +135,7 @@ call_graphic (WriteSet set values) h k =
     (refl, (name_graphic set k.0, values_graphic values k.1))
 call_graphic (NameList class scope after) h k =
     (refl, (signed_graphic class k, (scope_graphic scope h.0, after_graphic after h.1)))
+call_graphic (TypeOf name) h k = (refl, (name_graphic name k, tt))
 call_graphic (Define set members) h k =
     (refl, (name_graphic set k.0, names_graphic members k.1))
 call_graphic (MembersOf set) h k = (refl, (name_graphic set k, tt))

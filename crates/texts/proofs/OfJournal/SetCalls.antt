@@ -26,13 +26,13 @@ use Rattle.mms_data.proofs.OfText.TextReading.{datum_in-found, datum_in-text}
 use Rattle.mms_data.proofs.OfText.TextBreaks as breaks
 use Rattle.mms_data.proofs.OfText.WordText.{chosen}
 use Rattle.tase_views.specs.declared.call.CallKind.{CallKind}
-use Rattle.tase_views.specs.declared.call.CallKind.TheVariants.{ReadSet, WriteSet, Define}
+use Rattle.tase_views.specs.declared.call.CallKind.TheVariants.{ReadSet, WriteSet, TypeOf, Define}
 use Rattle.tase_views.specs.declared.call.CallKind.TheVariants.{MembersOf, Delete, DeleteScope}
 use Rattle.tase_views.specs.EventTexts.{read_set_verb}
 use Rattle.texts.specs.Events.CallWords.{SpellsCall}
 use Rattle.texts.specs.Journal.CallIn.{some_in, signed_64_in, sole_in, read_set_in}
 use Rattle.texts.specs.Journal.CallIn.{write_set_in, define_in, delete_in, if_other, delete_scope_in}
-use Rattle.texts.specs.Journal.CallIn.{set_call_in}
+use Rattle.texts.specs.Journal.CallIn.{type_in, set_call_in}
 use Rattle.texts.proofs.OfJournal.CallParts.{class_in-found, class_in-text, each_in-found}
 use Rattle.texts.proofs.OfJournal.CallParts.{each_in-words}
 use Rattle.texts.proofs.OfJournal.CallParts.{if_some-found, if_some-whole}
@@ -65,6 +65,18 @@ members_in-found words call e =
     let found = sole-found words set is in
     subst (λ (c : CallKind). SpellsCall (codes "members" ∷ words) c) (sym whole) (record {
       spelled = ap (λ ws. codes "members" ∷ ws) found.0;
+      lawful = tt;
+      textual = found.1;
+    }))
+
+pub type_in-found : (words : List (List ℕ)) (call : CallKind) → type_in words ≡ Some call
+    → SpellsCall (codes "type" ∷ words) call
+type_in-found words call e =
+    option_map-found (λ name. TypeOf name) (sole_in words) call e
+    (λ name is whole.
+    let found = sole-found words name is in
+    subst (λ (c : CallKind). SpellsCall (codes "type" ∷ words) c) (sym whole) (record {
+      spelled = ap (λ ws. codes "type" ∷ ws) found.0;
       lawful = tt;
       textual = found.1;
     }))
@@ -190,6 +202,10 @@ read_set_in-words echo set named = rw (name_in-name_text set named) refl
 pub members_in-words : (set : ObjectName) → IsName set
     → option_map (λ s. MembersOf s) (sole_in (name_text set ∷ [])) ≡ Some (MembersOf set)
 members_in-words set named = rw (name_in-name_text set named) refl
+
+pub type_in-words : (name : ObjectName) → IsName name
+    → type_in (name_text name ∷ []) ≡ Some (TypeOf name)
+type_in-words name named = rw (name_in-name_text name named) refl
 
 pub delete_in-words : (sets : List ObjectName) → 0 < length sets → All IsName sets
     → delete_in (map name_text sets) ≡ Some (Delete sets)

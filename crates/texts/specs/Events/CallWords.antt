@@ -11,7 +11,7 @@ use Rattle.mms_data.specs.Text.Texts.{data_text, name_text, scope_text}
 use Rattle.mms_data.specs.Text.TextRead.{HasText}
 use Rattle.tase_views.specs.declared.call.CallKind.{CallKind}
 use Rattle.tase_views.specs.declared.call.CallKind.TheVariants.{Identify, Read, ReadSet, Write}
-use Rattle.tase_views.specs.declared.call.CallKind.TheVariants.{WriteSet, NameList, Define}
+use Rattle.tase_views.specs.declared.call.CallKind.TheVariants.{WriteSet, NameList, TypeOf, Define}
 use Rattle.tase_views.specs.declared.call.CallKind.TheVariants.{MembersOf, Delete, DeleteScope, Odd}
 use Rattle.tase_views.specs.Calls.{IsCall}
 use Rattle.tase_views.specs.EventTexts.{read_verb, read_set_verb}
@@ -41,6 +41,7 @@ call_words (Write names values) = codes "write" ∷ assigned_words names values
 call_words (WriteSet set values) = codes "writeset" ∷ name_text set ∷ map data_text values
 call_words (NameList class scope after) =
     codes "names" ∷ signed_decimal class ∷ scope_text scope ∷ after_words after
+call_words (TypeOf name) = codes "type" ∷ name_text name ∷ []
 call_words (Define set members) = codes "define" ∷ name_text set ∷ map name_text members
 call_words (MembersOf set) = codes "members" ∷ name_text set ∷ []
 call_words (Delete sets) = codes "delete" ∷ map name_text sets
@@ -56,6 +57,7 @@ HasWords (ReadSet set echo) = IsName set
 HasWords (Write names values) = All IsName names × All HasText values
 HasWords (WriteSet set values) = IsName set × All HasText values
 HasWords (NameList class scope after) = FitsSigned w64 class
+HasWords (TypeOf name) = IsName name
 HasWords (Define set members) = IsName set × All IsName members
 HasWords (MembersOf set) = IsName set
 HasWords (Delete sets) = All IsName sets

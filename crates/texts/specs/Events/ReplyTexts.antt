@@ -4,10 +4,12 @@ use Rattle.std.specs.Prelude.{None, is_some, codes, decimal}
 use Rattle.plain_text.specs.Escaped.{escaped_text}
 use Rattle.mms_data.specs.declared.outcome.Outcome.{Outcome}
 use Rattle.mms_data.specs.Text.Texts.{outcome_text}
+use Rattle.mms_data.specs.Types.ShapeTexts.{shape_text}
 use Rattle.tase_views.specs.declared.reply.ReplyKind.{ReplyKind}
 use Rattle.tase_views.specs.declared.reply.ReplyKind.TheVariants.{Identified, Results, Written}
-use Rattle.tase_views.specs.declared.reply.ReplyKind.TheVariants.{NamesAre, Defined, MembersAre}
-use Rattle.tase_views.specs.declared.reply.ReplyKind.TheVariants.{Deleted, Error, Reject}
+use Rattle.tase_views.specs.declared.reply.ReplyKind.TheVariants.{NamesAre, TypeIs, Defined}
+use Rattle.tase_views.specs.declared.reply.ReplyKind.TheVariants.{MembersAre, Deleted, Error}
+use Rattle.tase_views.specs.declared.reply.ReplyKind.TheVariants.{Reject}
 use Rattle.tase_views.specs.EventTexts.{read_verb, next_name}
 
 -- an outcome of a read, after a space
@@ -29,7 +31,7 @@ more_text more = if more then codes "more" else codes "end"
 
 -- `identify`, `read OUTCOME ..`, or `read+ OUTCOME ..` where the reply repeats what the read named,
 -- `write` with `ok` or `!N` for each variable, `names end ITEM ..`, `names more ITEM ..`,
--- `defined`, `members NAME ..`, `deleted MATCHED DELETED`, `error CLASS CODE` or
+-- `type SHAPE`, `defined`, `members NAME ..`, `deleted MATCHED DELETED`, `error CLASS CODE` or
 -- `reject KIND CODE`
 abbrev pub reply_text : ReplyKind → List ℕ
 reply_text Identified = codes "identify"
@@ -37,6 +39,7 @@ reply_text (Results spec results) = read_verb (is_some spec) ++ flat_map result_
 reply_text (Written results) = codes "write" ++ flat_map written_text results
 reply_text (NamesAre names more) =
     codes "names " ++ more_text more ++ flat_map item_text names
+reply_text (TypeIs shape) = codes "type " ++ shape_text shape
 reply_text Defined = codes "defined"
 reply_text (MembersAre names) = codes "members" ++ flat_map next_name names
 reply_text (Deleted matched deleted) =

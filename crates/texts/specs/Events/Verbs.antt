@@ -45,6 +45,7 @@ verb_text verbs.ReadSetEcho = codes "readset+"
 verb_text verbs.Write = codes "write"
 verb_text verbs.WriteSet = codes "writeset"
 verb_text verbs.NameList = codes "names"
+verb_text verbs.TypeOf = codes "type"
 verb_text verbs.Define = codes "define"
 verb_text verbs.MembersOf = codes "members"
 verb_text verbs.Delete = codes "delete"
@@ -71,7 +72,8 @@ verb_in word =
     else (if bytes_eq word (codes "write") then Some verbs.Write
     else (if bytes_eq word (codes "names") then Some verbs.NameList
     else (if bytes_eq word (codes "odd") then Some verbs.Odd
-    else set_verb_in word)))))
+    else (if bytes_eq word (codes "type") then Some verbs.TypeOf
+    else set_verb_in word))))))
 
 -- a word is a name
 pub record IsNameWord (word : List ℕ) : Type 0 where
@@ -162,6 +164,7 @@ Behind verbs.ReadSetEcho words = Then IsNameWord NoWord words
 Behind verbs.Write words = OneOrMore IsAssignedWord words
 Behind verbs.WriteSet words = Then IsNameWord (OneOrMore IsValueWord) words
 Behind verbs.NameList words = Then IsClassWord (Then IsScopeWord (AtMostOne IsAfterWord)) words
+Behind verbs.TypeOf words = Then IsNameWord NoWord words
 Behind verbs.Define words = Then IsNameWord (OneOrMore IsNameWord) words
 Behind verbs.MembersOf words = Then IsNameWord NoWord words
 Behind verbs.Delete words = OneOrMore IsNameWord words

@@ -14,7 +14,7 @@ use Rattle.mms_data.specs.Text.NameIn.{identifier_in, is_separator, scope_in, na
 use Rattle.mms_data.specs.Text.DatumIn.{datum_in}
 use Rattle.tase_views.specs.declared.call.CallKind.{CallKind}
 use Rattle.tase_views.specs.declared.call.CallKind.TheVariants.{Identify, Read, ReadSet, Write}
-use Rattle.tase_views.specs.declared.call.CallKind.TheVariants.{WriteSet, NameList, Define}
+use Rattle.tase_views.specs.declared.call.CallKind.TheVariants.{WriteSet, NameList, TypeOf, Define}
 use Rattle.tase_views.specs.declared.call.CallKind.TheVariants.{MembersOf, Delete, DeleteScope, Odd}
 
 -- a name before a place, and a datum behind it
@@ -88,6 +88,10 @@ sole_in (word ∷ next ∷ more) = None
 abbrev pub read_set_in : Bool → List (List ℕ) → Option CallKind
 read_set_in echo words = option_map (λ set. ReadSet set echo) (sole_in words)
 
+-- `NAME` behind `type`
+abbrev pub type_in : List (List ℕ) → Option CallKind
+type_in words = option_map (λ name. TypeOf name) (sole_in words)
+
 -- `NAME DATA ..` behind `writeset`
 abbrev pub write_set_in : List (List ℕ) → Option CallKind
 write_set_in [] = None
@@ -149,4 +153,5 @@ call_in (verb ∷ words) =
     else (if bytes_eq verb (codes "names") then names_call_in words
     else (if bytes_eq verb (codes "identify") then identify_in words
     else (if bytes_eq verb (codes "odd") then odd_in words
-    else set_call_in verb words)))))
+    else (if bytes_eq verb (codes "type") then type_in words
+    else set_call_in verb words))))))

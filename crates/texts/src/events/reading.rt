@@ -99,6 +99,7 @@ fn behind_verb(alloc: Global, verb: Verb, text: &[u8]) -> Result<Call, Halt>
         Verb::Write => read_write(alloc, text),
         Verb::WriteSet => read_write_set(alloc, text),
         Verb::NameList => read_name_list(alloc, text),
+        Verb::TypeOf => read_type_of(alloc, text),
         Verb::Define => read_define(alloc, text),
         Verb::MembersOf => read_members_of(alloc, text),
         Verb::Delete => read_delete(alloc, text),
@@ -154,6 +155,17 @@ fn read_read_set(alloc: Global, text: &[u8], echo: bool) -> Result<Call, Halt>
 {
     let set = read_sole_name(alloc, text)?;
     Ok(Call::new(CallKind::ReadSet { set, echo }))
+}
+
+/// `NAME` behind `type`.
+fn read_type_of(alloc: Global, text: &[u8]) -> Result<Call, Halt>
+    ensures found { IfOk result (λ call. SpellsCall (codes "type" ∷ words text.now) call) }
+    ensures fault { IfErr result (λ halt. HaltsAtWords halt
+        (λ count. Breaks (Then IsNameWord NoWord) (words text.now) count)) }
+    ensures within { IfErr result (λ halt. HaltsAtWords halt (λ count. count ≤ length text.now)) }
+{
+    let name = read_sole_name(alloc, text)?;
+    Ok(Call::new(CallKind::TypeOf { name }))
 }
 
 /// `NAME` behind `members`.

@@ -137,6 +137,7 @@ pub fn calls_have_words(call: &Call)
             is_name(set);
             are_names(members.as_slice());
         }
+        CallKind::TypeOf { name } => is_name(name),
         CallKind::MembersOf { set } => is_name(set),
         CallKind::Delete { sets } => are_names(sets.as_slice()),
         CallKind::DeleteScope { scope } => fits(*scope),

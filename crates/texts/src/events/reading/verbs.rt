@@ -16,6 +16,7 @@ pub(crate) enum Verb {
     Write,
     WriteSet,
     NameList,
+    TypeOf,
     Define,
     MembersOf,
     Delete,
@@ -39,6 +40,8 @@ pub(crate) fn find_verb(word: &[u8]) -> Option<Verb>
         Some(Verb::NameList)
     } else if word == b"odd".as_slice() {
         Some(Verb::Odd)
+    } else if word == b"type".as_slice() {
+        Some(Verb::TypeOf)
     } else {
         find_set_verb(word)
     }

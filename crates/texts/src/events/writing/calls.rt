@@ -29,6 +29,7 @@ pub(crate) fn put_call(out: &mut Vec<u8>, call: &Call) -> Result<(), AllocError>
             scope,
             after,
         } => put_name_list(out, *class, scope, after),
+        CallKind::TypeOf { name } => put_type_of(out, name),
         CallKind::Define { set, members } => put_define(out, set, members.as_slice()),
         CallKind::MembersOf { set } => put_members_of(out, set),
         CallKind::Delete { sets } => put_delete(out, sets.as_slice()),
@@ -105,6 +106,17 @@ fn put_define(out: &mut Vec<u8>, set: &Name, members: &[Name]) -> Result<(), All
     out.extend_from_slice(b"define")?;
     put_next_name(out, set)?;
     put_names(out, members)
+}
+
+/// Appends `type`, and the name of a variable.
+#[tactic(auto, using(crate::proofs::OfEvents::Extended::extended))]
+fn put_type_of(out: &mut Vec<u8>, name: &Name) -> Result<(), AllocError>
+    ensures ok { OnOk result (out.new.items
+        ≡ out.old.items ++ codes "type" ++ next_name name.now) }
+    ensures err { OnErr result (Extends out.old.items out.new.items) }
+{
+    out.extend_from_slice(b"type")?;
+    put_next_name(out, name)
 }
 
 /// Appends `members`, and the name of a data set.

@@ -9,6 +9,7 @@ use crate::events::writing::calls::{put_names, put_pair, put_read_verb};
 use ber_values::Visible;
 use mms_data::Outcome;
 use mms_data::text::spell_outcome;
+use mms_data::types::spell_shape;
 use plain_text::{push_decimal, push_escaped};
 use std::alloc::AllocError;
 use tase_views::{Reply, ReplyKind};
@@ -30,6 +31,10 @@ pub(crate) fn put_reply(out: &mut Vec<u8>, reply: &Reply) -> Result<(), AllocErr
             put_written(out, results.as_slice())
         }
         ReplyKind::NamesAre { names, more } => put_name_list(out, names.as_slice(), *more),
+        ReplyKind::TypeIs(shape) => {
+            out.extend_from_slice(b"type ")?;
+            spell_shape(out, shape)
+        }
         ReplyKind::Defined => out.extend_from_slice(b"defined"),
         ReplyKind::MembersAre(names) => {
             out.extend_from_slice(b"members")?;
