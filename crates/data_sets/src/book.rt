@@ -65,6 +65,14 @@ impl SetBook {
         }
     }
 
+    /// It has no data sets from now on, and there may be so many. It takes no memory.
+    pub fn restart(&mut self, limit: u32)
+        ensures { self.new ≡ record { limit = limit; sets = [] } }
+    {
+        self.limit = limit;
+        self.sets.clear();
+    }
+
     /// Defines a data set of one or more members, after all that are there. After want of memory,
     /// and where it is refused, the data sets are as before.
     pub fn define(

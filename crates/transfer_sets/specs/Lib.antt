@@ -8,3 +8,4 @@ pub mod WishData
 pub mod NextDue
 pub mod DueIndex
 pub mod DueTree
+pub use Rattle.look_count.specs as LookCount

@@ -6,7 +6,6 @@ mod bank;
 mod due_index;
 mod due_tree;
 mod laws;
-mod looks;
 mod next_due;
 mod noted;
 mod parts;
@@ -15,13 +14,13 @@ mod slot;
 mod wish;
 mod writing;
 
-pub use bank::SlotBank;
+pub use bank::{OwnSlot, SlotBank};
 pub use due_index::DueIndex;
 pub use laws::{
     due_conditions_last, due_indexes_last, due_indexes_turn, due_is_one_number, next_moments_last,
     shown_wishes_are_read, slots_follow_their_moves,
 };
-pub use looks::{LOOK_LIMIT, Looks};
+pub use look_count::{LOOK_LIMIT, Looks};
 pub use next_due::DUE_LIMIT;
 pub use noted::Noted;
 pub use reading::read_wish;

@@ -68,6 +68,20 @@ impl Slot {
         }
     }
 
+    /// It is as a new one, and takes no memory for that.
+    pub fn clear(&mut self)
+        ensures state { self.new.state ≡ new_slot }
+        ensures spare { self.new.spare ≡ 0 }
+        ensures moves { (places : Places) (moves : List SlotMove) (ordinal : ℕ)
+            → FollowsMoves places (handed_out ordinal ∷ moves) self.new.state }
+    {
+        self.wish = Wish::empty(*self.noted.allocator());
+        self.base = 0;
+        self.first = None;
+        self.noted.clear();
+        self.room = 0;
+    }
+
     /// Enables the slot with a wish, at this moment: also one that is enabled, which begins anew.
     /// The wish's status is true from now on.
     pub fn enable(&mut self, wish: Wish, now: u64)

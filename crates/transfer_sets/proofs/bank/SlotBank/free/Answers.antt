@@ -13,13 +13,15 @@ loop-place-preserved c =
       c.loop-place-test.true,
       c.len-place-end.ensures,
       c.self.inside.slots.ok,
-    ) in
-    rw (c.free.ensures, c.index_mut.ensures.value, c.loop-place.invariant)
-    (part-step f place items _ within)
+    ) in (
+      rw (c.free.ensures, c.index_mut.ensures.value, c.loop-place.invariant.0)
+          (part-step f place items _ within),
+      omega (arith, c.add.ensures, c.loop-place.invariant.1),
+    )
 
-pub returns : goal.returns
-returns c =
-    c.loop-place.invariant
+pub returns-clause-slots : goal.returns-clause-slots
+returns-clause-slots c =
+    c.loop-place.invariant.0
     ∙ part-all (freed c.args.ordinal) c.loop-place.place c.self.inside.slots.items
     (omega (arith, c.loop-place-test.false, c.len-place-end.ensures, c.self.inside.slots.ok))
     ∙ ap (map (freed c.args.ordinal)) c.self.view_is

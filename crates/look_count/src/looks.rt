@@ -1,6 +1,6 @@
-//! How often transfer sets are looked at.
-ghost use Rattle.std.specs.Prelude.{◌≡◌, ◌+◌, min};
-ghost use Rattle.transfer_sets.specs.declared.looks.TheConstants.{LOOK_LIMIT};
+//! How often something is looked at.
+ghost use Rattle.std.specs.Prelude.{◌≡◌};
+ghost use Rattle.look_count.specs.Counted.{looked};
 
 use std::marker::Model;
 
@@ -10,8 +10,7 @@ pub const LOOK_LIMIT: u64 = u64::MAX;
 // Clauses cite this limit, so that it stands here as a number too.
 const _: () = prove!(LOOK_LIMIT == 18_446_744_073_709_551_615);
 
-/// How often transfer sets were read or changed: a look is all that is done with one of them in one
-/// pass over them.
+/// How often something was read or changed: a look is all that is done with it in one pass.
 #[derive(Drop)]
 pub struct Looks {
     count: u64,
@@ -25,14 +24,14 @@ impl Model for Looks {
     ghost view = { λ l. l.count };
 }
 
-impl Looks {
-    /// None so far.
-    pub fn new() -> Looks
-        ensures { result ≡ 0 }
-    {
-        Looks { count: 0 }
-    }
+/// None so far.
+pub fn no_looks() -> Looks
+    ensures { result ≡ 0 }
+{
+    Looks { count: 0 }
+}
 
+impl Looks {
     /// How many; the number stands still at [`LOOK_LIMIT`].
     pub fn count(&self) -> u64
         ensures { result ≡ self.now }
@@ -42,7 +41,7 @@ impl Looks {
 
     /// One more.
     pub fn add(&mut self)
-        ensures { self.new ≡ min (self.old + 1) LOOK_LIMIT }
+        ensures { self.new ≡ looked self.old 1 }
     {
         self.count = self.count.saturating_add(1);
     }
