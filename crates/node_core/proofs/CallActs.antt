@@ -7,8 +7,10 @@ use Rattle.mms_data.specs.ObjectName.{ObjectName}
 use Rattle.data_sets.specs.Books.{defined}
 use Rattle.tase_views.specs.declared.call.CallKind.{CallKind}
 use Rattle.tase_views.specs.declared.call.CallKind.TheVariants.{Identify, Read, ReadSet, Write}
-use Rattle.tase_views.specs.declared.call.CallKind.TheVariants.{WriteSet, NameList, Define}
+use Rattle.tase_views.specs.declared.call.CallKind.TheVariants.{WriteSet, NameList, TypeOf, Define}
 use Rattle.tase_views.specs.declared.call.CallKind.TheVariants.{MembersOf, Delete, DeleteScope, Odd}
+use Rattle.tase_views.specs.declared.event.EventKind.{EventKind}
+use Rattle.tase_views.specs.declared.event.EventKind.TheVariants.{Request}
 use Rattle.tase_views.specs.OwnTables.{OwnTables, table_in}
 use Rattle.tase_views.specs.Moves.{Act, opens, takes, closes, reads, writes, defines, deletes}
 use Rattle.tase_views.specs.Moves.{calls}
@@ -21,6 +23,8 @@ use Rattle.node_core.specs.Slots.SlotsKept.{all_read, all_written}
 use Rattle.node_core.specs.PeerParts.{fault_in, kept_in, part_after, part_behind, IsLawfulAct}
 use Rattle.node_core.specs.PeerParts.{EachAct}
 use Rattle.node_core.specs.Replies.Shown.{IsCalm}
+use Rattle.node_core.specs.declared.replies.sorts.CallSort.TheVariants as sorts
+use Rattle.node_core.specs.Replies.CallSorts.{IsRequestOf}
 
 each-append : (Q : Act → Type 0) (xs ys : List Act) → EachAct Q xs → EachAct Q ys
     → EachAct Q (xs ++ ys)
@@ -62,6 +66,7 @@ each_of_call Q r w c (Write names values) defining deleting =
 each_of_call Q r w c (WriteSet set values) defining deleting = (c (WriteSet set values), tt)
 each_of_call Q r w c (NameList class scope after) defining deleting =
     (c (NameList class scope after), tt)
+each_of_call Q r w c (TypeOf name) defining deleting = (c (TypeOf name), tt)
 each_of_call Q r w c (Define set members) defining deleting = (defining set members refl, tt)
 each_of_call Q r w c (MembersOf set) defining deleting = (c (MembersOf set), tt)
 each_of_call Q r w c (Delete sets) defining deleting =
@@ -135,6 +140,7 @@ calm_idle (ReadSet set echo) calm undefining undeleting active = active
 calm_idle (Write names values) calm undefining undeleting active = calm
 calm_idle (WriteSet set values) calm undefining undeleting active = active
 calm_idle (NameList class scope after) calm undefining undeleting active = active
+calm_idle (TypeOf name) calm undefining undeleting active = active
 calm_idle (Define set members) calm undefining undeleting active = undefining set members refl
 calm_idle (MembersOf set) calm undefining undeleting active = active
 calm_idle (Delete sets) calm undefining undeleting active = undeleting sets refl
@@ -150,6 +156,7 @@ idle_call tables now ordinal (ReadSet set echo) part idle = refl
 idle_call tables now ordinal (Write names values) part idle = absurd (idle tt)
 idle_call tables now ordinal (WriteSet set values) part idle = refl
 idle_call tables now ordinal (NameList class scope after) part idle = refl
+idle_call tables now ordinal (TypeOf name) part idle = refl
 idle_call tables now ordinal (Define set members) part idle = absurd (idle tt)
 idle_call tables now ordinal (MembersOf set) part idle = refl
 idle_call tables now ordinal (Delete sets) part idle = absurd (idle tt)
@@ -225,3 +232,9 @@ pub defining_call : (tables : OwnTables) (now ordinal : ℕ) (set : ObjectName)
     → part_behind tables now ordinal (defines set members ∷ []) part
     ≡ record part { book = defined part.book set.item members }
 defining_call tables now ordinal set members part fault = rw fault refl
+
+-- a request of a write names variables, and has values for them
+pub write_named : (event : EventKind) → IsRequestOf sorts.Write event
+    → (names : List ObjectName) × (values : List Datum) × (event ≡ Request (Write names values))
+write_named (Request (Write names values)) is = (names, values, refl)
+write_named event is = absurd is

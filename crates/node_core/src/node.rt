@@ -24,7 +24,7 @@ ghost use Rattle.node_core.specs.declared.replies.sorts.CallSort.TheVariants as 
 ghost use Rattle.node_core.specs.Replies.Shown.{IsCalm};
 ghost use Rattle.node_core.specs.Replies.CallSorts.{IsRequestOf};
 ghost use Rattle.node_core.specs.Stored.{IsTaggingOf, IsCalmRequest, IsReplied};
-ghost use Rattle.node_core.specs.Feeds.Concerned.{concerned, due_in_all, watching_total};
+ghost use Rattle.node_core.specs.Feeds.Concerned.{HasFewLooks, due_in_all, watching_total};
 
 mod hub;
 mod log;
@@ -34,13 +34,11 @@ mod refusals;
 
 use crate::feeds::{Advance, Change, ReportCause};
 use crate::objects::InForce;
-use crate::replies::{
-    CallSort, ReadReply, read_writes, select_all, sort_of, write_devices, written,
-};
+use crate::replies::{CallSort, ReadReply, select_all, sort_of, write_devices, written};
 use bilateral::Centre;
 use hub::Hub;
 use log::Log;
-use parts::{Parts, peer_view};
+use parts::{Parts, peer_view, read_writing};
 use refusals::{clock_refusal, first_refusal, name_refusal, seat_refusal};
 use sbo_device::{Hold, Key, Order};
 use std::alloc::{AllocError, Global};
@@ -102,21 +100,11 @@ impl Node {
         })
     }
 
-    /// Takes one event of a seat. An answer adds exactly this entry to the history; a fault changes
-    /// nothing. A close and a stop take no memory.
-    pub fn step(&mut self, alloc: Global, who: u64, event: Event) -> Result<Answer, StepFault>
-        ensures right { IsRightOutcome self.old.setup (reverse self.old.history) who event result }
-        ensures ok { OnOk result (self.new ≡ with_entry self.old who event) }
-        ensures err { OnErr result (self.new ≡ self.old) }
-    {
-        let mut looks = Looks::new();
-        self.counted_step(alloc, who, event, &mut looks)
-    }
-
-    /// Takes one event of a seat as [`Node::step`] does, and counts its looks at transfer sets in
-    /// ticks and updates: a tick looks at those of which something is due, an update at those that
-    /// are enabled and whose data set names its point, each time a few times.
-    pub fn counted_step(
+    /// Takes one event of a seat, and counts each look at a transfer set. An answer adds exactly
+    /// this entry to the history; a fault changes nothing. Whatever it answers, a tick looks at
+    /// those transfer sets alone of which something is due, and an update at those that are enabled
+    /// and whose data set names its point, each time a few times.
+    pub fn step(
         &mut self,
         alloc: Global,
         who: u64,
@@ -126,13 +114,27 @@ impl Node {
         ensures right { IsRightOutcome self.old.setup (reverse self.old.history) who event result }
         ensures ok { OnOk result (self.new ≡ with_entry self.old who event) }
         ensures err { OnErr result (self.new ≡ self.old) }
-        ensures looks { looks.new ≤ looks.old
-            + 8 * concerned self.old.setup.centre (reverse self.old.history) event }
+        ensures looks { HasFewLooks self.old.setup.centre (reverse self.old.history) event
+            looks.old looks.new }
     {
         if let Some(fault) = self.refusal(who, &event) {
             return Err(fault);
         }
         Ok(self.accept(alloc, who, event, looks)?)
+    }
+
+    /// Ends the association of a seat, as [`Node::step`] does at a close. It takes no memory.
+    pub fn close(&mut self, who: u64, looks: &mut Looks) -> Result<Answer, StepFault>
+        ensures right { IsRightOutcome self.old.setup (reverse self.old.history) who Close result }
+        ensures ok { OnOk result (self.new ≡ with_entry self.old who Close) }
+        ensures err { OnErr result (self.new ≡ self.old) }
+    {
+        let event = Event::new(EventKind::Close);
+        if let Some(fault) = self.refusal(who, &event) {
+            return Err(fault);
+        }
+        self.end_association(who, event, looks);
+        Ok(Answer::Closed)
     }
 
     /// How many entries the history has.
@@ -221,7 +223,13 @@ impl Node {
     }
 
     /// The reply to a call of an association that neither reads nor writes variables.
-    fn reply_to(&self, alloc: Global, key: Key, call: &Call) -> Result<Reply, AllocError>
+    fn reply_to(
+        &self,
+        alloc: Global,
+        key: Key,
+        call: &Call,
+        looks: &mut Looks,
+    ) -> Result<Reply, AllocError>
         requires known { key.peer < length self.now.setup.centre.tables }
         requires calm { IsCalm call.now }
         ensures { let rows = self.now.setup.centre in IfOk result (λ reply. reply
@@ -229,7 +237,7 @@ impl Node {
             (view_of rows key.peer (reverse self.now.history)) key.ordinal call.now) }
     {
         let shown = peer_view(&self.centre, &self.parts, &self.hub.plant, key.peer);
-        let reply = shown.reply_to(alloc, key.ordinal, call)?;
+        let reply = shown.reply_to(alloc, key.ordinal, call, looks)?;
         Ok(reply)
     }
 
@@ -247,8 +255,8 @@ impl Node {
         ensures ok { OnOk result (self.new ≡ with_entry self.old who event) }
         ensures err { OnErr result (self.new ≡ self.old) }
         ensures ending { OnErr result (is_ending event ≡ false) }
-        ensures looks { looks.new ≤ looks.old
-            + 8 * concerned self.old.setup.centre (reverse self.old.history) event }
+        ensures looks { HasFewLooks self.old.setup.centre (reverse self.old.history) event
+            looks.old looks.new }
     {
         match event.kind() {
             EventKind::Open { peer } => {
@@ -257,11 +265,11 @@ impl Node {
             }
             EventKind::Request { call } => {
                 let call = sort_of(call);
-                self.request(alloc, who, call, event)
+                self.request(alloc, who, call, event, looks)
             }
             EventKind::Take => self.take(alloc, who, event),
             EventKind::Close => {
-                self.close(alloc, who, event);
+                self.end_association(who, event, looks);
                 Ok(Answer::Closed)
             }
             EventKind::Update { point, value } => {
@@ -272,7 +280,7 @@ impl Node {
             EventKind::Table { peer, variant } => {
                 let peer = *peer;
                 let variant = *variant;
-                self.choose(alloc, who, peer, variant, event)
+                self.choose(who, peer, variant, event, looks)
             }
             EventKind::Tag { device, .. } => {
                 let device = *device;
@@ -285,7 +293,7 @@ impl Node {
             EventKind::Ask { peer, slot } => {
                 let peer = *peer;
                 let slot = *slot;
-                self.ask(alloc, who, peer, slot, event)
+                self.ask(alloc, who, peer, slot, event, looks)
             }
             EventKind::TakeOrders => self.take_orders(alloc, who, event),
             EventKind::Stop => {
@@ -354,11 +362,11 @@ impl Node {
 
     fn choose(
         &mut self,
-        alloc: Global,
         who: u64,
         peer: u32,
         variant: u32,
         event: Event,
+        looks: &mut Looks,
     ) -> Result<Answer, AllocError>
         requires table { event ≡ Table peer variant }
         requires free { refusal_of self.old.setup (reverse self.old.history) who event ≡ None }
@@ -368,8 +376,9 @@ impl Node {
         ensures err { OnErr result (self.new ≡ self.old) }
     {
         self.log.reserve(who, &event, self.hub.open_count())?;
-        self.parts.choose(alloc, &self.centre, peer, variant);
-        self.parts.rebuild(&self.centre, peer, self.hub.last_tick());
+        self.parts.choose(&self.centre, peer, variant);
+        self.parts
+            .rebuild(&self.centre, peer, self.hub.last_tick(), looks);
         self.log.append(who, event);
         Ok(Answer::Noted)
     }
@@ -449,6 +458,7 @@ impl Node {
         peer: u32,
         slot: u32,
         event: Event,
+        looks: &mut Looks,
     ) -> Result<Answer, AllocError>
         requires ask { event ≡ Ask peer slot }
         requires free { refusal_of self.old.setup (reverse self.old.history) who event ≡ None }
@@ -461,9 +471,9 @@ impl Node {
         let cause = ReportCause::Ask { slot, now };
         self.log.reserve(who, &event, self.hub.open_count())?;
         self.parts
-            .draft(alloc, &self.centre, &self.hub.plant, peer, cause)?;
-        self.parts.report(peer, cause);
-        self.parts.rebuild(&self.centre, peer, now);
+            .draft(alloc, &self.centre, &self.hub.plant, peer, cause, looks)?;
+        self.parts.report(peer, cause, looks);
+        self.parts.rebuild(&self.centre, peer, now, looks);
         self.log.append(who, event);
         Ok(Answer::Noted)
     }
@@ -475,6 +485,7 @@ impl Node {
         who: u64,
         sort: CallSort,
         event: Event,
+        looks: &mut Looks,
     ) -> Result<Answer, AllocError>
         requires request { IsRequestOf sort event }
         requires free { refusal_of self.old.setup (reverse self.old.history) who event ≡ None }
@@ -484,15 +495,21 @@ impl Node {
         ensures err { OnErr result (self.new ≡ self.old) }
     {
         match sort {
-            CallSort::Read => self.read(alloc, who, event),
-            CallSort::Write => self.write(alloc, who, event),
-            CallSort::Other => self.reply(alloc, who, event),
+            CallSort::Read => self.read(alloc, who, event, looks),
+            CallSort::Write => self.write(alloc, who, event, looks),
+            CallSort::Other => self.reply(alloc, who, event, looks),
         }
     }
 
     /// Takes a read of variables, hands out the transfer sets that it reads as the next, and
     /// selects the devices whose selections it reads.
-    fn read(&mut self, alloc: Global, who: u64, event: Event) -> Result<Answer, AllocError>
+    fn read(
+        &mut self,
+        alloc: Global,
+        who: u64,
+        event: Event,
+        looks: &mut Looks,
+    ) -> Result<Answer, AllocError>
         requires request { IsRequestOf sorts.Read event }
         requires free { refusal_of self.old.setup (reverse self.old.history) who event ≡ None }
         ensures answer { IfOk result
@@ -508,19 +525,31 @@ impl Node {
             unreachable!();
         };
         let shown = peer_view(&self.centre, &self.parts, &self.hub.plant, key.peer);
-        let ReadReply { reply, handed } = shown.read_reply(alloc, key.ordinal, names, *echo)?;
+        let ReadReply { reply, handed } = shown.read_reply(
+            alloc,
+            key.ordinal,
+            names,
+            *echo,
+            looks,
+        )?;
         self.log.reserve(who, &event, self.hub.open_count())?;
         let table = InForce::new(&self.centre, key.peer, self.parts.force(key.peer));
         let now = self.hub.last_tick();
         select_all(&mut self.hub.plant.devices, &table, key, now, names);
         self.parts
-            .hand_out(alloc, &self.centre, key, now, handed.as_slice());
+            .hand_out(&self.centre, key, now, handed.as_slice(), looks);
         self.log.append(who, event);
         Ok(Answer::Reply(reply))
     }
 
     /// Takes a write of variables, and does what it asks of devices and of transfer sets.
-    fn write(&mut self, alloc: Global, who: u64, event: Event) -> Result<Answer, AllocError>
+    fn write(
+        &mut self,
+        alloc: Global,
+        who: u64,
+        event: Event,
+        looks: &mut Looks,
+    ) -> Result<Answer, AllocError>
         requires request { IsRequestOf sorts.Write event }
         requires free { refusal_of self.old.setup (reverse self.old.history) who event ≡ None }
         ensures answer { IfOk result
@@ -529,30 +558,37 @@ impl Node {
         ensures err { OnErr result (self.new ≡ self.old) }
     {
         let key = self.hub.association(who).unwrap();
-        let EventKind::Request { call } = event.kind() else {
-            unreachable!();
-        };
-        let CallKind::Write { names, values } = call.kind() else {
-            unreachable!();
-        };
-        let table = InForce::new(&self.centre, key.peer, self.parts.force(key.peer));
-        let asked = read_writes(alloc, &table, names.as_slice(), values.as_slice())?;
-        let mut left = Vec::new(alloc);
-        left.reserve(asked.len())?;
-        let mut results = Vec::new(alloc);
-        results.reserve(asked.len())?;
+        let mut writing = read_writing(alloc, &self.centre, &self.parts, key.peer, &event)?;
         self.log.reserve(who, &event, self.hub.open_count())?;
-        self.hub.plant.devices.room(asked.len())?;
-        write_devices(&mut self.hub.plant.devices, key, asked, &mut left);
+        self.hub.plant.devices.room(writing.asked.len())?;
+        write_devices(
+            &mut self.hub.plant.devices,
+            key,
+            writing.asked,
+            &mut writing.left,
+        );
         let now = self.hub.last_tick();
-        self.parts.write(&self.centre, key, now, left, &mut results);
-        self.parts.rebuild(&self.centre, key.peer, now);
+        self.parts.write(
+            &self.centre,
+            key,
+            now,
+            writing.left,
+            &mut writing.results,
+            looks,
+        );
+        self.parts.rebuild(&self.centre, key.peer, now, looks);
         self.log.append(who, event);
-        Ok(Answer::Reply(written(results)))
+        Ok(Answer::Reply(written(writing.results)))
     }
 
     /// Takes a request that neither reads nor writes variables.
-    fn reply(&mut self, alloc: Global, who: u64, event: Event) -> Result<Answer, AllocError>
+    fn reply(
+        &mut self,
+        alloc: Global,
+        who: u64,
+        event: Event,
+        looks: &mut Looks,
+    ) -> Result<Answer, AllocError>
         requires request { IsRequestOf sorts.Other event }
         requires free { refusal_of self.old.setup (reverse self.old.history) who event ≡ None }
         ensures answer { IfOk result
@@ -564,8 +600,8 @@ impl Node {
         let EventKind::Request { call } = event.kind() else {
             unreachable!();
         };
-        let reply = self.reply_to(alloc, key, call)?;
-        self.note(who, key, event, reply.kind())?;
+        let reply = self.reply_to(alloc, key, call, looks)?;
+        self.note(who, key, event, reply.kind(), looks)?;
         Ok(Answer::Reply(reply))
     }
 
@@ -577,6 +613,7 @@ impl Node {
         key: Key,
         event: Event,
         reply: &ReplyKind,
+        looks: &mut Looks,
     ) -> Result<(), AllocError>
         requires request { IsCalmRequest event }
         requires seated { association_in (reverse self.old.history) who ≡ Some key }
@@ -588,7 +625,8 @@ impl Node {
     {
         self.log.reserve(who, &event, self.hub.open_count())?;
         let now = self.hub.last_tick();
-        self.parts.request(&self.centre, key, now, &event, reply)?;
+        self.parts
+            .request(&self.centre, key, now, &event, reply, looks)?;
         self.log.append(who, event);
         Ok(())
     }
@@ -609,7 +647,8 @@ impl Node {
         Ok(Answer::Reports(reports))
     }
 
-    fn close(&mut self, alloc: Global, who: u64, event: Event)
+    /// Ends the association of a seat. It takes no memory.
+    fn end_association(&mut self, who: u64, event: Event, looks: &mut Looks)
         requires close { event ≡ Close }
         requires free { refusal_of self.old.setup (reverse self.old.history) who event ≡ None }
         ensures { self.new ≡ with_entry self.old who event }
@@ -617,9 +656,9 @@ impl Node {
         let key = self.hub.association(who).unwrap();
         self.hub.unseat(who);
         self.hub.plant.devices.close(key);
-        self.parts.close(alloc, &self.centre, key);
+        self.parts.close(&self.centre, key, looks);
         self.parts
-            .rebuild(&self.centre, key.peer, self.hub.last_tick());
+            .rebuild(&self.centre, key.peer, self.hub.last_tick(), looks);
         self.log.append(who, event);
     }
 

@@ -3,7 +3,9 @@
 mod in_force;
 mod listing;
 mod naming;
+mod types;
 
 pub(crate) use in_force::InForce;
 pub(crate) use listing::{list_names, name_with};
 pub(crate) use naming::{Found, Special, find_object, is_member, is_report_variable, slot_item};
+pub(crate) use types::type_of;

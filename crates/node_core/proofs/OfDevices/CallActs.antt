@@ -7,7 +7,7 @@ use Rattle.bilateral.specs.Rows.{CentreRows}
 use Rattle.sbo_device.specs.declared.key.Key.{Key}
 use Rattle.tase_views.specs.declared.call.CallKind.{CallKind}
 use Rattle.tase_views.specs.declared.call.CallKind.TheVariants.{Identify, Read, ReadSet, Write}
-use Rattle.tase_views.specs.declared.call.CallKind.TheVariants.{WriteSet, NameList, Define}
+use Rattle.tase_views.specs.declared.call.CallKind.TheVariants.{WriteSet, NameList, TypeOf, Define}
 use Rattle.tase_views.specs.declared.call.CallKind.TheVariants.{MembersOf, Delete, DeleteScope, Odd}
 use Rattle.tase_views.specs.Moves.{Act, opens, takes, closes, reads, writes, defines, deletes}
 use Rattle.tase_views.specs.Moves.{calls, Move, acts, writes_of, acts_of_call}
@@ -54,6 +54,7 @@ of_call (ReadSet set echo) = (tt, tt)
 of_call (Write names values) = reversed (writes_of names values) (all_writes names values)
 of_call (WriteSet set values) = (tt, tt)
 of_call (NameList class scope after) = (tt, tt)
+of_call (TypeOf name) = (tt, tt)
 of_call (Define set members) = (tt, tt)
 of_call (MembersOf set) = (tt, tt)
 of_call (Delete sets) = reversed (map deletes sets) (all_deletes sets)

@@ -40,7 +40,7 @@ reads_select : (P : Option Deed → Type 0) → P None
     → (object : Option Object) → P (option_and_then read_deed object)
 reads_select P none selects None = none
 reads_select P none selects (Some (selection d)) = selects d
-reads_select P none selects (Some (constant value)) = none
+reads_select P none selects (Some (constant value shape)) = none
 reads_select P none selects (Some next_transfer_set) = none
 reads_select P none selects (Some (report_variable v)) = none
 reads_select P none selects (Some (indication_point p)) = none

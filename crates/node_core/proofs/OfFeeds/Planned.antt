@@ -385,6 +385,10 @@ count_from has n = length (filter has (range_with_len n (SLOT_LIMIT - n)))
 abbrev pub IsLookedTo : (ℕ → Bool) → ℕ → ℕ → ℕ → Type 0
 IsLookedTo has n old now = now + count_from has n ≤ old + count_from has 0
 
+-- the same where each of them is looked at twice
+abbrev pub IsLookedTwiceTo : (ℕ → Bool) → ℕ → ℕ → ℕ → Type 0
+IsLookedTwiceTo has n old now = now + 2 * count_from has n ≤ old + 2 * count_from has 0
+
 -- whether something is planned for a transfer set; whether it is enabled and names a point
 abbrev pub is_planned : List (List ℕ) → ℕ → Bool
 is_planned plan s = nat_lt 0 (length (places_at plan s))
@@ -401,14 +405,24 @@ module _ (has : ℕ → Bool) (n : ℕ) where
       let more : SLOT_LIMIT - n ≡ suc (SLOT_LIMIT - (n + 1)) = omega arith in rw (more, here) refl
 
   -- one that has the property is looked at, another isn't
-  pub looked-at : (old mid new limit : ℕ) → n < SLOT_LIMIT → has n ≡ true
-      → new ≡ min (mid + 1) limit → IsLookedTo has n old mid → IsLookedTo has (n + 1) old new
-  looked-at old mid new limit within here one so =
+  pub looked-at : (old mid new : ℕ) → n < SLOT_LIMIT → has n ≡ true → new ≤ mid + 1
+      → IsLookedTo has n old mid → IsLookedTo has (n + 1) old new
+  looked-at old mid new within here one so =
       let step = count_step within true here in omega (arith, step, one, so)
 
   pub looked-past : (old now : ℕ) → n < SLOT_LIMIT → has n ≡ false → IsLookedTo has n old now
       → IsLookedTo has (n + 1) old now
   looked-past old now within other so =
+      let step = count_step within false other in omega (arith, step, so)
+
+  pub looked-twice-at : (old mid new : ℕ) → n < SLOT_LIMIT → has n ≡ true → new ≤ mid + 2
+      → IsLookedTwiceTo has n old mid → IsLookedTwiceTo has (n + 1) old new
+  looked-twice-at old mid new within here two so =
+      let step = count_step within true here in omega (arith, step, two, so)
+
+  pub looked-twice-past : (old now : ℕ) → n < SLOT_LIMIT → has n ≡ false
+      → IsLookedTwiceTo has n old now → IsLookedTwiceTo has (n + 1) old now
+  looked-twice-past old now within other so =
       let step = count_step within false other in omega (arith, step, so)
 
 -- how many they are stays within all of them

@@ -3,12 +3,11 @@
 use Rattle.std.proofs.Common.{◌≡◌, ℕ, ◌+◌, ◌<◌, ◌≤◌, ◌==◌, Bool, true, false, ◌&&◌, List, []}
 use Rattle.std.proofs.Common.{◌∷◌, ◌++◌, map, length, Option, Some, None, bytes_eq, refl, sym, ap}
 use Rattle.std.proofs.Common.{subst, ◌∙◌, ◌≢◌, ⊎_elim, set, length-set, get_or-set_same, arith}
-use Rattle.std.proofs.Common.{get_or-set_other, below_more, suc, not, min, ◌-◌}
+use Rattle.std.proofs.Common.{get_or-set_other, below_more, suc, not, ◌-◌, ◌*◌}
 use Rattle.std.specs.Prelude.{if◌then◌else◌, flat_map, find, option_map, is_some}
 use Rattle.std.specs.Prelude.{codes, is_none, filter}
 use Rattle.std.specs.List.{list_any, range_with_len}
 use Rattle.std.specs.Option.{unwrap_or}
-use Rattle.std.proofs.Math.Nat.{min-le_left}
 use Rattle.std.proofs.lemmas.Bool.{cases_lt, or_from, or_parts, and_left}
 use Rattle.std.proofs.lemmas.Bool.Decides.{nat_tests}
 use Rattle.std.proofs.lemmas.List.{get_or_past, set-get_or}
@@ -26,7 +25,7 @@ use Rattle.transfer_sets.proofs.Followed as follows
 use Rattle.transfer_sets.specs.Due.{conditions_due}
 use Rattle.transfer_sets.specs.NextDue.{IsNextMoment, has_come}
 use Rattle.transfer_sets.specs.DueIndex.{next_at, HaveNotCome, IsTurningIndex}
-use Rattle.transfer_sets.specs.declared.looks.TheConstants.{LOOK_LIMIT}
+use Rattle.transfer_sets.specs.LookCount.Counted.{looked}
 use Rattle.bilateral.specs.declared.rows.TheConstants.{SLOT_LIMIT}
 use Rattle.transfer_sets.specs.Banks.{OwnedSlot, free_slot, slot_at, HasMoreRoom, told}
 use Rattle.tase_views.specs.OwnTables.{OwnPoint, OwnDevice, OwnTable, OwnTables}
@@ -177,17 +176,6 @@ reported_more cause n old now new within r here = record {
     apart s other = ap (λ (slots : List OwnedSlot). slot_at slots s) here
         ∙ get_or-set_other now n s _ free_slot other
 
-pub one_reported : (cause : ReportCause) (n : ℕ) (old now : List OwnedSlot) → n < length old
-    → AreReportedTo cause n old now → (conditions : ℕ)
-    → conditions ≡ conditions_by cause n (slot_at now n).state → (made : Bool)
-    → made ≡ makes_report (slot_at now n).state conditions → (new : List OwnedSlot)
-    → new ≡ (if made then set now n (told (slot_at now n)) else now)
-    → AreReportedTo cause (n + 1) old new
-one_reported cause n old now within r conditions due made makes new is =
-    reported_more cause n old now new within r
-    (set_reported now new n conditions (conditions_by cause n (slot_at now n).state) made due makes
-    is)
-
 -- where nothing is due nothing is told
 pub undue_reported : (slot : OwnedSlot) (conditions : ℕ) → not (conditions == 0) ≡ false
     → slot ≡ reported_on conditions slot
@@ -253,31 +241,36 @@ due_from-all from to slots =
     let all : SLOT_LIMIT - 0 ≡ SLOT_LIMIT = omega arith in
     ap (counted_from (λ s. not (conditions_due (slot_at slots s).state from to == 0)) 0) all
 
+-- one of them more, of which something is due or nothing
+due_more : (from to n : ℕ) (slots : List OwnedSlot) → n < SLOT_LIMIT → (b : Bool)
+    → not (conditions_due (slot_at slots n).state from to == 0) ≡ b → due_from from to slots n
+    ≡ (if b then suc (due_from from to slots (n + 1)) else due_from from to slots (n + 1))
+due_more from to n slots within b is =
+    counted_more (λ s. not (conditions_due (slot_at slots s).state from to == 0)) n
+    (SLOT_LIMIT - n) (SLOT_LIMIT - (n + 1)) b (omega (arith, within)) is
+
 module _ (from to n : ℕ) (slots : List OwnedSlot) (looks bound : ℕ) (within : n < SLOT_LIMIT)
     (few : looks + due_from from to slots n ≤ bound) where
   -- a transfer set of which something is due is looked at, another isn't
   pub due-looked : (new : ℕ) → not (conditions_due (slot_at slots n).state from to == 0) ≡ true
-      → new ≡ min (looks + 1) LOOK_LIMIT → new + due_from from to slots (n + 1) ≤ bound
-  due-looked new due looked =
-      let one = counted_more (λ s. not (conditions_due (slot_at slots s).state from to == 0)) n
-      (SLOT_LIMIT - n) (SLOT_LIMIT - (n + 1)) true (omega arith) due in
-      let more = min-le_left (looks + 1) LOOK_LIMIT in
-      omega (arith, few, one, more, looked)
+      → new ≡ looked looks 1 → new + due_from from to slots (n + 1) ≤ bound
+  due-looked new due one_look =
+      let one = due_more from to n slots within true due in
+      omega (arith, few, one, one_look)
 
   pub undue-passed : not (conditions_due (slot_at slots n).state from to == 0) ≡ false
       → looks + due_from from to slots (n + 1) ≤ bound
   undue-passed due =
-      let one = counted_more (λ s. not (conditions_due (slot_at slots s).state from to == 0)) n
-      (SLOT_LIMIT - n) (SLOT_LIMIT - (n + 1)) false (omega arith) due in
+      let one = due_more from to n slots within false due in
       omega (arith, few, one)
 
 -- of transfer sets the first so many are behind a tick, the index is brought along with them, and
--- those were looked at of which something was due
+-- those were looked at of which something was due, three times at the most
 pub record IsTicking (from to n : ℕ) (old now : List OwnedSlot) (index : List (Option ℕ))
     (looks bound : ℕ) : Type 0 where
   pub reported : AreReportedTo (Tick from to) n old now
   pub dues : IsTurningIndex now n from to index
-  pub few : looks + due_from from to old n ≤ bound
+  pub few : looks + 3 * due_from from to old n ≤ bound
 
 module _ (from to n : ℕ) (old now : List OwnedSlot) (index : List (Option ℕ)) (looks bound : ℕ)
     (t : IsTicking from to n old now index looks bound) (within : n < SLOT_LIMIT)
@@ -301,8 +294,8 @@ module _ (from to n : ℕ) (old now : List OwnedSlot) (index : List (Option ℕ)
       → IsTurningIndex (set now n slot) (n + 1) from to (set index n next))
       → new ≡ set now n (reported_on due (slot_at now n))
       → IsNextMoment (slot_at new n).state to next → after ≡ set index n next
-      → more ≡ min (looks + 1) LOOK_LIMIT → IsTicking from to (n + 1) old new after more bound
-  IsTicking-due new next after more is put set_is moment index_is looked = record {
+      → more ≤ looks + 3 → IsTicking from to (n + 1) old new after more bound
+  IsTicking-due new next after more is put set_is moment index_is three = record {
     reported = reported_more (Tick from to) n old now new (omega (arith, many, within)) t.reported
         set_is;
     dues =
@@ -314,7 +307,9 @@ module _ (from to n : ℕ) (old now : List OwnedSlot) (index : List (Option ℕ)
         (subst (λ (x : List (Option ℕ)). IsTurningIndex (set now n slot) (n + 1) from to x)
         (sym index_is) (put slot (subst (λ (s : OwnedSlot). IsNextMoment s.state to next) here
         moment)));
-    few = due-looked from to n old looks bound within t.few more (due_before true is) looked;
+    few =
+        let one = due_more from to n old within true (due_before true is) in
+        omega (arith, t.few, one, three);
   }
 
   pub IsTicking-undue : not (due == 0) ≡ false → IsTurningIndex now (n + 1) from to index
@@ -323,7 +318,9 @@ module _ (from to n : ℕ) (old now : List OwnedSlot) (index : List (Option ℕ)
     reported = reported_more (Tick from to) n old now now (omega (arith, many, within)) t.reported
         (sym (set-get_or now n free_slot) ∙ ap (set now n) (undue_reported (slot_at now n) due is));
     dues = dues;
-    few = undue-passed from to n old looks bound within t.few (due_before false is);
+    few =
+        let one = due_more from to n old within false (due_before false is) in
+        omega (arith, t.few, one);
   }
 
 -- one whose moment hasn't come

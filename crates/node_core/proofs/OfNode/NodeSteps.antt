@@ -25,7 +25,7 @@ use Rattle.tase_views.specs.declared.event.EventKind.TheVariants as events
 use Rattle.tase_views.specs.declared.event.EventKind.TheVariants.{TakeOrders, Stop}
 use Rattle.tase_views.specs.declared.call.CallKind.{CallKind}
 use Rattle.tase_views.specs.declared.call.CallKind.TheVariants.{Identify, Read, ReadSet, Write}
-use Rattle.tase_views.specs.declared.call.CallKind.TheVariants.{WriteSet, NameList, Define}
+use Rattle.tase_views.specs.declared.call.CallKind.TheVariants.{WriteSet, NameList, TypeOf, Define}
 use Rattle.tase_views.specs.declared.call.CallKind.TheVariants.{MembersOf, Delete, DeleteScope, Odd}
 use Rattle.tase_views.specs.declared.reply.ReplyKind.{ReplyKind}
 use Rattle.tase_views.specs.declared.reply.ReportKind.{ReportKind}
@@ -770,6 +770,7 @@ module _ (rows : CentreRows) (past : Past) (hub : Hub) (parts : Parts)
         by_book tables view part (Write names values) reply ordinal p is = tt
         by_book tables view part (WriteSet set values) reply ordinal p is = tt
         by_book tables view part (NameList class scope from) reply ordinal p is = tt
+        by_book tables view part (TypeOf name) reply ordinal p is = tt
         by_book tables view part (MembersOf set) reply ordinal p is = tt
         by_book tables view part (Delete sets) reply ordinal p is = tt
         by_book tables view part (DeleteScope scope) reply ordinal p is = tt

@@ -1,13 +1,15 @@
 -- The outcomes of steps.
 use Rattle.std.proofs.Common.{◌≡◌, ℕ, false, List, [], ◌∷◌, ◌++◌, reverse, Option, Some, None}
-use Rattle.std.proofs.Common.{is_some, refl}
+use Rattle.std.proofs.Common.{is_some, refl, sym, subst, arith}
 use Rattle.std.proofs.lemmas.Bool.{true≢false}
 use Rattle.std.proofs.lemmas.List.{reverse-append}
 use Rattle.sbo_device.specs.declared.key.Key.{Key}
 use Rattle.sbo_device.specs.declared.order.Order.{Order}
+use Rattle.bilateral.specs.Rows.{CentreRows}
 use Rattle.tase_views.specs.declared.call.CallKind.{CallKind}
 use Rattle.tase_views.specs.declared.event.EventKind.{EventKind}
 use Rattle.tase_views.specs.declared.event.EventKind.TheVariants.{Open, Request, Take, TakeOrders}
+use Rattle.tase_views.specs.declared.event.EventKind.TheVariants.{Tick, Update}
 use Rattle.tase_views.specs.declared.reply.ReplyKind.{ReplyKind}
 use Rattle.tase_views.specs.declared.reply.ReportKind.{ReportKind}
 use Rattle.tase_views.specs.declared.reply.Answer.TheVariants.{Opened, Reply, Reports, Orders}
@@ -19,6 +21,7 @@ use Rattle.tase_views.specs.Orders.{orders_left}
 use Rattle.tase_views.specs.Answers.{reply_to}
 use Rattle.tase_views.specs.Reports.{reports_pending}
 use Rattle.tase_views.specs.Outcomes.{IsAnswer}
+use Rattle.node_core.specs.Feeds.Concerned.{HasFewLooks}
 
 pub reverse_push : {X : Type 0} (xs : List X) (x : X) → reverse (xs ++ x ∷ []) ≡ x ∷ reverse xs
 reverse_push xs x = reverse-append xs (x ∷ [])
@@ -56,3 +59,16 @@ pub IsAnswer-request : (setup : Setup) (past : Past) (who : ℕ) (event : EventK
     → IsAnswer setup past who event (Reply reply)
 IsAnswer-request setup past who event call key reply is there reply_is =
     rw (is, there, reply_is) refl
+
+-- an event takes few looks by whatever it is
+pub few_by : (rows : CentreRows) (past : Past) (event other : EventKind) (old new : ℕ)
+    → event ≡ other → HasFewLooks rows past other old new → HasFewLooks rows past event old new
+few_by rows past event other old new is few =
+    subst (λ (e : EventKind). HasFewLooks rows past e old new) (sym is) few
+
+-- one that takes none takes few
+pub few_same : (rows : CentreRows) (past : Past) (event : EventKind) (looks : ℕ)
+    → HasFewLooks rows past event looks looks
+few_same rows past (Tick to) looks = omega arith
+few_same rows past (Update point value) looks = omega arith
+few_same rows past event looks = tt

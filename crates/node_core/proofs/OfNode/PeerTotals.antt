@@ -50,6 +50,32 @@ sum_more peers number before now after n part at below more =
       of_part-at peers number n part at,
     )
 
+-- the same where the number counts twice, and where it counts three times
+pub sum_more_twice : (peers : List Peer) (number : Peer → ℕ) (before now after n : ℕ) (part : Peer)
+    → slice_get peers n ≡ Some part → now ≤ before + 2 * over_peers n (of_part peers number)
+    → after ≤ now + 2 * number part → after ≤ before + 2 * over_peers (n + 1) (of_part peers number)
+sum_more_twice peers number before now after n part at below more =
+    omega (
+      arith,
+      below,
+      more,
+      over_peers-more n (of_part peers number),
+      of_part-at peers number n part at,
+    )
+
+pub sum_more_thrice : (peers : List Peer) (number : Peer → ℕ) (before now after n : ℕ)
+    (part : Peer)
+    → slice_get peers n ≡ Some part → now ≤ before + 3 * over_peers n (of_part peers number)
+    → after ≤ now + 3 * number part → after ≤ before + 3 * over_peers (n + 1) (of_part peers number)
+sum_more_thrice peers number before now after n part at below more =
+    omega (
+      arith,
+      below,
+      more,
+      over_peers-more n (of_part peers number),
+      of_part-at peers number n part at,
+    )
+
 -- a part of a sum is no more than all of it
 pub sum_within : (peers : List Peer) (number : Peer → ℕ) (before now n : ℕ) → n ≤ length peers
     → now ≤ before + over_peers n (of_part peers number)
@@ -107,13 +133,13 @@ FirstIndexed-all rows now count old new all same f = record {
 pub looked_once : (old new one all : ℕ) → new ≤ old + one → one ≡ all → new ≤ old + 8 * all
 looked_once old new one all a is = omega (arith, a, is)
 
-pub looked_twice : (old mid new one two all : ℕ) → mid ≤ old + one → new ≤ mid + two → one ≡ all
+pub looked_twice : (old mid new one two all : ℕ) → mid ≤ old + one → new ≤ mid + 3 * two → one ≡ all
     → two ≡ all → new ≤ old + 8 * all
 looked_twice old mid new one two all a b is too = omega (arith, a, b, is, too)
 
 pub looked_both : (old new one all : ℕ) → new ≤ old + 2 * one → one ≡ all → new ≤ old + 8 * all
 looked_both old new one all a is = omega (arith, a, is)
 
-pub looked_thrice : (old mid new one two all : ℕ) → mid ≤ old + 2 * one → new ≤ mid + two
+pub looked_thrice : (old mid new one two all : ℕ) → mid ≤ old + 2 * one → new ≤ mid + 2 * two
     → one ≡ all → two ≡ all → new ≤ old + 8 * all
 looked_thrice old mid new one two all a b is too = omega (arith, a, b, is, too)

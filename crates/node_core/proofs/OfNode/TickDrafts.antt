@@ -8,10 +8,10 @@ use Rattle.std.specs.List.{All, range_with_len}
 use Rattle.std.proofs.lemmas.Bool.{cases_eq}
 use Rattle.std.proofs.lemmas.List.{length-map, get_or-map, append-nil, set-get_or}
 use Rattle.std.proofs.lemmas.List.{get_or_default}
-use Rattle.std.proofs.Common.{◌==◌, not, min, zero, suc}
+use Rattle.std.proofs.Common.{◌==◌, not, zero, suc}
 use Rattle.bilateral.specs.Rows.{CentreRows}
 use Rattle.bilateral.specs.declared.rows.TheConstants.{SLOT_LIMIT}
-use Rattle.transfer_sets.specs.declared.looks.TheConstants.{LOOK_LIMIT}
+use Rattle.transfer_sets.specs.LookCount.Counted.{looked}
 use Rattle.transfer_sets.specs.Due.{conditions_due}
 use Rattle.transfer_sets.specs.Banks.{slot_at, is_owned_by}
 use Rattle.tase_views.specs.declared.reply.ReportKind.{ReportKind}
@@ -115,91 +115,52 @@ module _ (shown : Shown) (more : OwnTables → View → ℕ → List ReportKind)
       ∙ ap (λ (l : List ReportKind). set now count (drafted_by l a)) (sym (append-nil a.drafted)))
       none
 
--- a part that is as it was but for its drafts, of which so many first have behind them what a cause
--- makes of a transfer set
-pub record IsSlotDrafted (rows : CentreRows) (peer : ℕ) (plant : Plant) (cause : ReportCause)
-    (slot count : ℕ) (old now : Peer) : Type 0 where
-  pub same : now ≡ record old { associations = now.associations }
-  pub more : FirstDraftedMore (shown_of rows peer old plant)
-      (λ tables view ordinal. made_by tables view ordinal cause slot) count old.associations
-      now.associations
+-- what a cause makes of a transfer set, one association after another
+module _ (shown : Shown) (cause : ReportCause) (slot : ℕ) where
+  abbrev pub of_slot : OwnTables → View → ℕ → List ReportKind
+  of_slot tables view ordinal = made_by tables view ordinal cause slot
 
-module _ (rows : CentreRows) (peer : ℕ) (plant : Plant) (cause : ReportCause) (slot : ℕ)
-    (old : Peer) where
-  pub IsSlotDrafted-start : IsSlotDrafted rows peer plant cause slot 0 old old
-  IsSlotDrafted-start = record {
+  pub owned-start : (old : List OpenAssociation) → FirstDraftedMore shown of_slot 0 old old
+  owned-start old = record {
     same = refl;
-    more = record {
-      same = refl;
-      done = λ place below. absurd (omega (arith, below));
-      left = λ place past. refl;
-    };
+    done = λ place below. absurd (omega (arith, below));
+    left = λ place past. refl;
   }
 
-  module _ (count : ℕ) (now : Peer) (f : IsSlotDrafted rows peer plant cause slot count old now)
-    where
-      -- how many associations there are
-      pub IsSlotDrafted-many : length now.associations ≡ length old.associations
-      IsSlotDrafted-many =
-          sym (length-map now.associations undrafted)
-          ∙ ap (λ (l : List OpenAssociation). length l) f.more.same
-          ∙ length-map old.associations undrafted
+  module _ (count : ℕ) (old now : List OpenAssociation)
+      (f : FirstDraftedMore shown of_slot count old now) where
+    -- how many associations there are
+    pub owned-many : length now ≡ length old
+    owned-many =
+        sym (length-map now undrafted)
+        ∙ ap (λ (l : List OpenAssociation). length l) f.same
+        ∙ length-map old undrafted
 
-      -- the next one owns the transfer set, or it doesn't
-      pub IsSlotDrafted-owner : (next : Peer) (those : List OpenAssociation)
-          (made : List ReportKind) → count < length now.associations
-          → is_owned_by (association_at now.associations count).ordinal (slot_at now.slots slot)
-          ≡ true
-          → IsMadeOf (shown_of rows peer now plant) cause slot made
-          → map undrafted those ≡ map undrafted now.associations
-          → those ≡ set now.associations count
-          (added_to (association_at now.associations count) made)
-          → next ≡ record now { associations = those }
-          → IsSlotDrafted rows peer plant cause slot (count + 1) old next
-      IsSlotDrafted-owner next those made there mine is alike set_is next_is =
-          let shown = shown_of rows peer old plant in
-          let more = λ (tables : OwnTables) (view : View) (ordinal : ℕ).
-          made_by tables view ordinal cause slot in
-          let step = FirstDraftedMore-step shown more count old.associations now.associations those
-          made f.more there alike set_is
-          (subst (λ (s : Shown). InEachView s (λ tables view. made
-          ≡ made_by tables view (association_at now.associations count).ordinal cause slot))
-          (shown-same rows peer plant old now f.same)
-          (λ updates tables view s. is updates tables view s
-          (association_at now.associations count).ordinal mine)) in
-          subst (λ (x : Peer). IsSlotDrafted rows peer plant cause slot (count + 1) old x)
-          (sym next_is)
-          (record {
-            same = ap (λ (x : Peer). record x { associations = those }) f.same;
-            more = step;
-          })
+    -- the next one owns the transfer set, or it doesn't
+    pub owned-more : (next : List OpenAssociation) (made : List ReportKind) → count < length now
+        → is_owned_by (association_at now count).ordinal (slot_at shown.slots slot) ≡ true
+        → IsMadeOf shown cause slot made → map undrafted next ≡ map undrafted now
+        → next ≡ set now count (added_to (association_at now count) made)
+        → FirstDraftedMore shown of_slot (count + 1) old next
+    owned-more next made there mine is alike set_is =
+        FirstDraftedMore-step shown of_slot count old now next made f there alike set_is
+        (λ updates tables view s.
+        is updates tables view s (association_at now count).ordinal mine)
 
-      pub IsSlotDrafted-other : count < length now.associations
-          → is_owned_by (association_at now.associations count).ordinal (slot_at now.slots slot)
-          ≡ false
-          → IsSlotDrafted rows peer plant cause slot (count + 1) old now
-      IsSlotDrafted-other there other = record {
-        same = f.same;
-        more = FirstDraftedMore-none (shown_of rows peer old plant)
-            (λ tables view ordinal. made_by tables view ordinal cause slot) count old.associations
-            now.associations f.more there
-            (λ updates tables view s.
-            own-none updates tables view (shown_of rows peer old plant) s slot cause
-            (association_at now.associations count).ordinal
-            (ap (λ (x : Peer). is_owned_by (association_at now.associations count).ordinal
-            (slot_at x.slots slot)) (sym f.same) ∙ other));
-      }
+    pub owned-other : count < length now
+        → is_owned_by (association_at now count).ordinal (slot_at shown.slots slot) ≡ false
+        → FirstDraftedMore shown of_slot (count + 1) old now
+    owned-other there other =
+        FirstDraftedMore-none shown of_slot count old now f there
+        (λ updates tables view s.
+        own-none updates tables view shown s slot cause (association_at now count).ordinal other)
 
-      pub IsSlotDrafted-all : length now.associations ≤ count
-          → AreDraftedMore (shown_of rows peer old plant)
-          (λ tables view ordinal. made_by tables view ordinal cause slot) old.associations
-          now.associations
-      IsSlotDrafted-all all = record {
-        same = f.more.same;
-        each = λ place within.
-            let many = IsSlotDrafted-many in
-            f.more.done place (omega (arith, all, within, many)) within;
-      }
+    pub owned-all : length now ≤ count → AreDraftedMore shown of_slot old now
+    owned-all all = record {
+      same = f.same;
+      each = λ place within.
+          let many = owned-many in f.done place (omega (arith, all, within, many)) within;
+    }
 
 -- ---- one transfer set after another
 
@@ -362,13 +323,13 @@ module _ (rows : CentreRows) (peer : ℕ) (plant : Plant) (from to slot : ℕ) (
       → AreDraftedMore (shown_of rows peer now plant)
       (λ tables view ordinal. made_by tables view ordinal (Tick from to) slot) now.associations
       after.associations
-      → next ≡ after → more ≡ min (looks + 1) LOOK_LIMIT
+      → next ≡ after → more ≡ looked looks 1
       → IsDraftingTick rows peer plant from to (slot + 1) old next more bound
-  IsDraftingTick-due after is same made next_is looked = record {
+  IsDraftingTick-due after is same made next_is one_look = record {
     drafted = subst (λ (x : Peer). IsTickDrafted rows peer plant from to (slot + 1) old x)
         (sym next_is)
         (IsTickDrafted-due rows peer plant from to old slot now after below same made d.drafted);
-    few = due-looked from to slot old.slots looks bound within d.few more is looked;
+    few = due-looked from to slot old.slots looks bound within d.few more is one_look;
   }
 
   pub IsDraftingTick-undue : not (due == 0) ≡ false → next ≡ now → more ≡ looks

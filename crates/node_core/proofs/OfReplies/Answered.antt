@@ -94,7 +94,7 @@ object_alike : (tables : OwnTables) (v w : View) (ordinal : ℕ) (slots : List O
     → object_read tables v ordinal object
     ≡ object_shown tables (held tables v) w ordinal slots object
 object_alike tables v w ordinal slots None k same = refl
-object_alike tables v w ordinal slots (Some (constant value)) k same = refl
+object_alike tables v w ordinal slots (Some (constant value shape)) k same = refl
 object_alike tables v w ordinal slots (Some (report_variable variable)) k same = refl
 object_alike tables v w ordinal slots (Some (indication_point point)) k same =
     rw (same.values point.name) refl

@@ -15,7 +15,7 @@ use Rattle.sbo_device.specs.Banks.{DeviceRecord, BankState, device_at, moved_at}
 use Rattle.tase_views.specs.declared.reply.TheConstants.{OBJECT_ACCESS_DENIED}
 use Rattle.tase_views.specs.declared.call.CallKind.{CallKind}
 use Rattle.tase_views.specs.declared.call.CallKind.TheVariants.{Identify, Read, ReadSet, Write}
-use Rattle.tase_views.specs.declared.call.CallKind.TheVariants.{WriteSet, NameList, Define}
+use Rattle.tase_views.specs.declared.call.CallKind.TheVariants.{WriteSet, NameList, TypeOf, Define}
 use Rattle.tase_views.specs.declared.call.CallKind.TheVariants.{MembersOf, Delete, DeleteScope, Odd}
 use Rattle.tase_views.specs.OwnTables.{OwnDevice, OwnTable}
 use Rattle.tase_views.specs.Objects.{Object, constant, report_variable, indication_point}
@@ -132,7 +132,7 @@ module _ (rows : CentreRows) (table : OwnTable) (now : ℕ) (key : Key) where
   read_orders : (object : Option Object) (devices : List DeviceRecord)
       → orders_given_by rows key (option_and_then read_deed object) devices ≡ []
   read_orders None devices = refl
-  read_orders (Some (constant value)) devices = refl
+  read_orders (Some (constant value shape)) devices = refl
   read_orders (Some next_transfer_set) devices = refl
   read_orders (Some (report_variable v)) devices = refl
   read_orders (Some (indication_point p)) devices = refl
@@ -221,7 +221,7 @@ module _ (rows : CentreRows) (table : OwnTable) (now : ℕ) (key : Key) where
       → IsSameWrite (option_and_then (write_deed value) object) (asked_of rows object value)
       devices
   write_same None value devices ranged = record { kept = refl; given = refl }
-  write_same (Some (constant shown)) value devices ranged =
+  write_same (Some (constant shown shape)) value devices ranged =
       record { kept = refl; given = refl }
   write_same (Some next_transfer_set) value devices ranged =
       record { kept = refl; given = refl }
@@ -325,6 +325,7 @@ module _ (rows : CentreRows) (table : OwnTable) (now : ℕ) (key : Key) where
   calm_idle (Write names values) calm = absurd calm
   calm_idle (WriteSet set values) calm = (refl, tt)
   calm_idle (NameList class scope after) calm = (refl, tt)
+  calm_idle (TypeOf name) calm = (refl, tt)
   calm_idle (Define set members) calm = (refl, tt)
   calm_idle (MembersOf set) calm = (refl, tt)
   calm_idle (Delete sets) calm =

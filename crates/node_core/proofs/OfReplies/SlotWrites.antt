@@ -83,7 +83,7 @@ slots_alike rows table book key now name value devices slots = by (object_named 
         (left_of key (asked_of rows object value) devices) slots
         ≡ slots_written table book key.ordinal now name value slots
     by None e = rw e refl
-    by (Some (constant shown)) e = rw e refl
+    by (Some (constant shown shape)) e = rw e refl
     by (Some (report_variable variable)) e = rw e refl
     by (Some (indication_point point)) e = rw e refl
     by (Some next_transfer_set) e = rw e refl
@@ -156,7 +156,7 @@ module _ (rows : CentreRows) (tables : OwnTables) (peer ordinal : ℕ) where
         (left_of mine (asked_of rows object value) devices) slots
         ≡ object_written tables view ordinal object value
     answer_alike None value seen = refl
-    answer_alike (Some (constant shown)) value seen = refl
+    answer_alike (Some (constant shown shape)) value seen = refl
     answer_alike (Some (report_variable variable)) value seen = refl
     answer_alike (Some (indication_point point)) value seen = refl
     answer_alike (Some next_transfer_set) value seen = refl

@@ -1,6 +1,6 @@
 -- How many transfer sets an event concerns: a tick those of which something is due, an update those
 -- that are enabled and whose data set names its point.
-use Rattle.std.specs.Prelude.{ℕ, ◌==◌, ◌&&◌, not, Bool, List, length, filter}
+use Rattle.std.specs.Prelude.{ℕ, ◌≤◌, ◌+◌, ◌*◌, ◌==◌, ◌&&◌, not, Bool, List, length, filter}
 use Rattle.std.specs.Prelude.{nat_lt}
 use Rattle.std.specs.List.{range_with_len}
 use Rattle.bilateral.specs.declared.rows.TheConstants.{SLOT_LIMIT}
@@ -40,8 +40,10 @@ watching_total rows past point =
     over_peers (length rows.tables) (λ peer. watching_in (own_tables rows peer)
     (view_of rows peer past) (point_of rows point).name)
 
--- those that an event concerns
-abbrev pub concerned : CentreRows → Past → EventKind → ℕ
-concerned rows past (Tick to) = due_in_all rows past to
-concerned rows past (Update point value) = watching_total rows past point
-concerned rows past event = 0
+-- By their numbers before and behind an event: a tick takes at most eight looks for each transfer
+-- set of which something is due, an update at most eight for each that is enabled and whose data set
+-- names its point. Of other events nothing is said.
+abbrev pub HasFewLooks : CentreRows → Past → EventKind → ℕ → ℕ → Type 0
+HasFewLooks rows past (Tick to) old new = new ≤ old + 8 * due_in_all rows past to
+HasFewLooks rows past (Update point value) old new = new ≤ old + 8 * watching_total rows past point
+HasFewLooks rows past event old new = Unit {0}

@@ -13,6 +13,7 @@ use Rattle.tase_views.specs.OwnTables.{own_table, is_scope_of}
 use Rattle.tase_views.specs.Objects.{Object, constant, report_variable, indication_point, set_name}
 use Rattle.tase_views.specs.Objects.{next_transfer_set, transfer_set, transfer_set_status}
 use Rattle.tase_views.specs.Objects.{time_stamp, conditions_detected, event_code, version, features}
+use Rattle.tase_views.specs.Objects.{version_shape, features_shape, name_shape}
 use Rattle.tase_views.specs.Objects.{control_point, selection, device_tag, timeout, NamedObject}
 use Rattle.tase_views.specs.Objects.{next_objects, objects_of_device, objects_of_slot}
 use Rattle.node_core.specs.declared.objects.naming.Special.{Special}
@@ -63,9 +64,9 @@ domain_objects table =
 
 -- the object that an object of the protocol itself is for a peer with this table
 abbrev pub special_object : OwnTable → Special → Object
-special_object table specials.Version = constant version
-special_object table specials.Features = constant features
-special_object table specials.TableId = constant (text table.id)
+special_object table specials.Version = constant version version_shape
+special_object table specials.Features = constant features features_shape
+special_object table specials.TableId = constant (text table.id) name_shape
 special_object table specials.SetName = report_variable set_name
 special_object table specials.TimeStamp = report_variable time_stamp
 special_object table specials.Conditions = report_variable conditions_detected

@@ -22,7 +22,7 @@ use data_sets::{Members, SetBook};
 use mms_data::Name;
 use point_db::Watch;
 use std::alloc::{AllocError, Global};
-use transfer_sets::{DueIndex, SlotBank, Wish, due_indexes_last};
+use transfer_sets::{DueIndex, Looks, SlotBank, Wish, due_indexes_last};
 
 /// By what a tick and an update find the transfer sets of a peer that they concern.
 #[derive(Drop)]
@@ -51,7 +51,14 @@ impl PeerIndex {
 
     /// Makes it anew from the table in force, the data sets and the transfer sets of the peer, at
     /// this moment, in milliseconds since 1970. It takes no memory.
-    pub fn rebuild(&mut self, table: &InForce<'_>, book: &SetBook, bank: &SlotBank, now: u64)
+    pub fn rebuild(
+        &mut self,
+        table: &InForce<'_>,
+        book: &SetBook,
+        bank: &SlotBank,
+        now: u64,
+        looks: &mut Looks,
+    )
         requires many { length bank.now ≡ SLOTS }
         requires dues { length self.old.dues ≡ SLOTS }
         requires room { HasWatchRoom (length table.now.rows.points) table.now.table
@@ -64,8 +71,9 @@ impl PeerIndex {
     {
         self.watch.clear();
         for slot in 0..SLOT_LIMIT as u32 {
-            self.dues.set(slot, bank.next_due(slot, now));
-            watch_slot(&mut self.watch, table, book, bank.wish(slot), slot);
+            let own = bank.look(looks, slot);
+            self.dues.set(slot, own.next_due(now));
+            watch_slot(&mut self.watch, table, book, own.wish(), slot);
         }
     }
 }

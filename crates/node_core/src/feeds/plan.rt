@@ -1,6 +1,6 @@
 //! What a change of a point notes in the transfer sets of a peer, planned before anything changes.
-ghost use Rattle.std.specs.Prelude.{◌≡◌, ◌<◌, ◌≤◌, ◌+◌, ℕ, List, [], length, IfOk, OnOk, IfSome};
-ghost use Rattle.std.specs.Prelude.{◌++◌, if◌then◌else◌};
+ghost use Rattle.std.specs.Prelude.{◌≡◌, ◌<◌, ◌≤◌, ◌+◌, ◌*◌, ℕ, List, [], length, IfOk, OnOk};
+ghost use Rattle.std.specs.Prelude.{◌++◌, IfSome, if◌then◌else◌};
 ghost use Rattle.std.specs.Option.{option_copied};
 ghost use Rattle.bilateral.specs.declared.rows.TheConstants.{SLOT_LIMIT as SLOTS};
 ghost use Rattle.bilateral.specs.Rows.{point_of};
@@ -88,8 +88,7 @@ impl ChangePlan {
         for slot in 0..SLOT_LIMIT as u32 {
             let places = &mut self.places[slot as usize];
             if watch.is_watching(point, slot) {
-                looks.add();
-                plan_slot(places, table, book, bank.wish(slot), point)?;
+                plan_slot(places, table, book, bank.look(looks, slot).wish(), point)?;
             } else {
                 places.clear();
             }
@@ -108,15 +107,14 @@ impl ChangePlan {
         for slot in 0..SLOT_LIMIT as u32 {
             let places = self.places[slot as usize].as_slice();
             if !places.is_empty() {
-                looks.add();
-                bank.room(slot, places.len())?;
+                bank.room(looks, slot, places.len())?;
             }
         }
         Ok(())
     }
 
     /// A point has changed as this says: it is noted as planned, and the index is kept. It takes
-    /// no memory, and looks at those transfer sets alone for which something is planned.
+    /// no memory, and looks at those transfer sets alone for which something is planned, twice.
     pub fn note(&self, bank: &mut SlotBank, change: Change, dues: &mut DueIndex, looks: &mut Looks)
         requires many { length bank.old ≡ SLOTS }
         requires room { HasPlanRoom self.now bank.old }
@@ -133,7 +131,7 @@ impl ChangePlan {
         ensures wishes { (s : ℕ) → (slot_at bank.new s).state.wish
             ≡ (slot_at bank.old s).state.wish }
         ensures dues { IsDueIndex bank.new change.now dues.new }
-        ensures looks { looks.new ≤ looks.old + planned_count self.now }
+        ensures looks { looks.new ≤ looks.old + 2 * planned_count self.now }
     {
         slots_follow_their_moves();
         due_indexes_last();
@@ -141,9 +139,8 @@ impl ChangePlan {
         for slot in 0..SLOT_LIMIT as u32 {
             let places = self.places[slot as usize].as_slice();
             if !places.is_empty() {
-                looks.add();
-                bank.change(slot, now, value, cov, places);
-                dues.set(slot, bank.next_due(slot, now));
+                bank.change(looks, slot, now, value, cov, places);
+                dues.set(slot, bank.look(looks, slot).next_due(now));
             }
         }
     }

@@ -17,7 +17,13 @@ ghost use Rattle.node_core.specs.PeerParts.{new_part, part_after, EachAct, IsLaw
 ghost use Rattle.node_core.specs.PeerParts.{IsReplyTo, IsReplyBy, acts_asked};
 ghost use Rattle.node_core.specs.Replies.Shown.{IsCalm, IsShowable, shown_of};
 ghost use Rattle.node_core.specs.Slots.SlotsKept.{handed_all, AreSlots};
-ghost use Rattle.node_core.specs.Slots.SlotWrites.{IsAskedThere, all_answers, all_slots};
+ghost use Rattle.node_core.specs.Slots.SlotWrites.{IsAskedThere, all_asked, all_answers, all_slots};
+ghost use Rattle.mms_data.specs.Datum.{Datum};
+ghost use Rattle.mms_data.specs.ObjectName.{ObjectName};
+ghost use Rattle.tase_views.specs.declared.event.EventKind.TheVariants.{Request};
+ghost use Rattle.node_core.specs.declared.replies.sorts.CallSort.TheVariants as sorts;
+ghost use Rattle.node_core.specs.Replies.CallSorts.{IsRequestOf};
+ghost use Rattle.node_core.specs.Objects.Found.{offered, table_at};
 ghost use Rattle.node_core.specs.Stored.{IsPeerThere, MayOpen, IsChanged, IsAsked, IsCalmRequest};
 ghost use Rattle.node_core.specs.Stored.{IsPeerShown, IsPeerBanked, HasPeerRoom};
 ghost use Rattle.node_core.specs.PartFeeds.{IsAlike, IsDrafted, IsReported, IsReady, IsNoted};
@@ -33,7 +39,7 @@ use super::peer::Peer;
 use crate::feeds::{Advance, Change, PeerIndex, ReportCause};
 use crate::objects::InForce;
 use crate::plant::Plant;
-use crate::replies::PeerView;
+use crate::replies::{PeerView, read_writes};
 use crate::slots::{Asked, is_defined};
 use bilateral::Centre;
 use mms_data::{Name, Names};
@@ -71,7 +77,7 @@ impl Parts {
 
     /// Makes the index of a peer anew, at this moment, in milliseconds since 1970, where what is
     /// kept of it has changed since all indexes were those of `before`. It takes no memory.
-    pub fn rebuild(&mut self, centre: &Centre, peer: u32, now: u64)
+    pub fn rebuild(&mut self, centre: &Centre, peer: u32, now: u64, looks: &mut Looks)
         requires there { IsPeerThere centre.now self.old.peers.items peer }
         requires lawful { IsCentre centre.now }
         requires index { HasIndex centre.now peer self.old.indexes.items }
@@ -83,7 +89,7 @@ impl Parts {
         let place = peer as usize;
         let part = &self.peers[place];
         let table = InForce::new(centre, peer, part.variant);
-        self.indexes[place].rebuild(&table, &part.book, &part.slots, now);
+        self.indexes[place].rebuild(&table, &part.book, &part.slots, now, looks);
     }
 
     /// The association that a peer opens next.
@@ -130,8 +136,8 @@ impl Parts {
         Ok(())
     }
 
-    /// An association of a peer is closed.
-    pub fn close(&mut self, alloc: Global, centre: &Centre, key: Key)
+    /// An association of a peer is closed. It takes no memory.
+    pub fn close(&mut self, centre: &Centre, key: Key, looks: &mut Looks)
         requires there { IsPeerThere centre.now self.old.peers.items key.peer }
         ensures parts { (now : ℕ) → IsChanged self.old.peers.items key.peer
             (part_after (own_tables centre.now key.peer) now (own key.ordinal closes))
@@ -140,11 +146,11 @@ impl Parts {
     {
         let place = key.peer as usize;
         let limit = centre.variant(key.peer, self.peers[place].chosen_last).sets;
-        self.peers[place].close(alloc, key.ordinal, limit);
+        self.peers[place].close(key.ordinal, limit, looks);
     }
 
-    /// The operator chooses a table of a peer.
-    pub fn choose(&mut self, alloc: Global, centre: &Centre, peer: u32, variant: u32)
+    /// The operator chooses a table of a peer. It takes no memory.
+    pub fn choose(&mut self, centre: &Centre, peer: u32, variant: u32)
         requires there { IsPeerThere centre.now self.old.peers.items peer }
         requires variant { variant < length (variants_of centre.now peer) }
         ensures parts { (now : ℕ) → IsChanged self.old.peers.items peer
@@ -152,7 +158,7 @@ impl Parts {
         ensures indexes { self.new.indexes.items ≡ self.old.indexes.items }
     {
         let limit = centre.variant(peer, variant).sets;
-        self.peers[peer as usize].choose(alloc, variant, limit);
+        self.peers[peer as usize].choose(variant, limit);
     }
 
     /// An association asks something that neither reads nor writes variables, which has this reply,
@@ -164,6 +170,7 @@ impl Parts {
         now: u64,
         event: &Event,
         reply: &ReplyKind,
+        looks: &mut Looks,
     ) -> Result<(), AllocError>
         requires request { IsCalmRequest event.now }
         requires there { IsPeerThere centre.now self.old.peers.items key.peer }
@@ -180,7 +187,7 @@ impl Parts {
         let EventKind::Request { call } = event.kind() else {
             return Ok(());
         };
-        self.call(centre, key, now, call, reply)
+        self.call(centre, key, now, call, reply, looks)
     }
 
     /// An association makes a call: a definition that has no error, a deletion, or one that changes
@@ -192,6 +199,7 @@ impl Parts {
         now: u64,
         call: &Call,
         reply: &ReplyKind,
+        looks: &mut Looks,
     ) -> Result<(), AllocError>
         requires calm { IsCalm call.now }
         requires there { IsPeerThere centre.now self.old.peers.items key.peer }
@@ -208,14 +216,14 @@ impl Parts {
         match call.kind() {
             CallKind::Define { set, members } => {
                 self.define(key, set, members, reply)?;
-                self.rebuild(centre, key.peer, now);
+                self.rebuild(centre, key.peer, now, looks);
                 Ok(())
             }
             CallKind::Delete { sets } => {
                 let place = key.peer as usize;
                 let table = centre.variant(key.peer, self.peers[place].variant);
-                self.peers[place].delete(&table.domain, table.slots, sets.as_slice());
-                self.rebuild(centre, key.peer, now);
+                self.peers[place].delete(&table.domain, table.slots, sets.as_slice(), looks);
+                self.rebuild(centre, key.peer, now, looks);
                 Ok(())
             }
             _ => Ok(()),
@@ -252,7 +260,14 @@ impl Parts {
 
     /// Hands transfer sets of a peer out to an association, in order, at this moment, in
     /// milliseconds since 1970, and keeps its index. It takes no memory.
-    pub fn hand_out(&mut self, alloc: Global, centre: &Centre, key: Key, now: u64, handed: &[u32])
+    pub fn hand_out(
+        &mut self,
+        centre: &Centre,
+        key: Key,
+        now: u64,
+        handed: &[u32],
+        looks: &mut Looks,
+    )
         requires there { IsPeerThere centre.now self.old.peers.items key.peer }
         requires lawful { IsCentre centre.now }
         requires indexed { AreIndexed centre.now now self.old.peers.items self.old.indexes.items }
@@ -265,12 +280,12 @@ impl Parts {
         if handed.is_empty() {
             return;
         }
-        self.hand_out_some(alloc, key, handed);
-        self.rebuild(centre, key.peer, now);
+        self.hand_out_some(key, handed, looks);
+        self.rebuild(centre, key.peer, now, looks);
     }
 
     /// Hands transfer sets of a peer out to an association, in order.
-    fn hand_out_some(&mut self, alloc: Global, key: Key, handed: &[u32])
+    fn hand_out_some(&mut self, key: Key, handed: &[u32], looks: &mut Looks)
         requires known { key.peer < vec_len self.old.peers }
         requires many { (part : Peer) → slice_get self.old.peers.items key.peer ≡ Some part
             → length part.slots ≡ SLOT_LIMIT }
@@ -280,7 +295,7 @@ impl Parts {
             self.new.peers.items }
         ensures indexes { self.new.indexes.items ≡ self.old.indexes.items }
     {
-        self.peers[key.peer as usize].hand_out(alloc, key.ordinal, handed);
+        self.peers[key.peer as usize].hand_out(key.ordinal, handed, looks);
     }
 
     /// Does what writes of an association ask, at this moment, and appends what comes of each. It
@@ -292,6 +307,7 @@ impl Parts {
         now: u64,
         asked: Vec<Asked>,
         results: &mut Vec<Option<u8>>,
+        looks: &mut Looks,
     )
         requires there { IsPeerThere centre.now self.old.peers.items key.peer }
         requires asked { All (IsAskedThere 0) asked.items }
@@ -308,7 +324,7 @@ impl Parts {
     {
         let place = key.peer as usize;
         let domain = &centre.variant(key.peer, self.peers[place].variant).domain;
-        self.peers[place].write(domain, key.ordinal, now, asked, results);
+        self.peers[place].write(domain, key.ordinal, now, asked, results, looks);
     }
 
     /// Hands the reports out that were made for an association since its last take. It takes no
@@ -332,6 +348,7 @@ impl Parts {
         plant: &Plant,
         peer: u32,
         cause: ReportCause,
+        looks: &mut Looks,
     ) -> Result<(), AllocError>
         requires { IsPeerShown centre.now plant.now self.old.peers.items peer }
         ensures alike { OneBecomes IsAlike peer self.old.peers.items self.new.peers.items }
@@ -340,7 +357,7 @@ impl Parts {
             self.old.peers.items self.new.peers.items) }
         ensures indexes { self.new.indexes.items ≡ self.old.indexes.items }
     {
-        self.peers[peer as usize].draft(alloc, centre, peer, plant, cause)?;
+        self.peers[peer as usize].draft(alloc, centre, peer, plant, cause, looks)?;
         Ok(())
     }
 
@@ -405,13 +422,13 @@ impl Parts {
     }
 
     /// Notes the reports of a peer that were drafted. It takes no memory.
-    pub fn report(&mut self, peer: u32, cause: ReportCause)
+    pub fn report(&mut self, peer: u32, cause: ReportCause, looks: &mut Looks)
         requires { IsPeerBanked self.old.peers.items peer }
         ensures reported { OneBecomes (IsReported cause) peer self.old.peers.items
             self.new.peers.items }
         ensures indexes { self.new.indexes.items ≡ self.old.indexes.items }
     {
-        self.peers[peer as usize].report(cause);
+        self.peers[peer as usize].report(cause, looks);
     }
 
     /// Notes the reports of a peer that were drafted for a tick. It takes no memory.
@@ -433,7 +450,7 @@ impl Parts {
             ≡ slice_get self.old.indexes.items other }
         ensures many { length self.new.indexes.items ≡ length self.old.indexes.items }
         ensures looks { (part : AnyPeer) → slice_get self.old.peers.items peer ≡ Some part
-            → looks.new ≤ looks.old + due_count advance.from advance.to part.slots }
+            → looks.new ≤ looks.old + 3 * due_count advance.from advance.to part.slots }
     {
         let place = peer as usize;
         self.peers[place].report_tick(advance, &mut self.indexes[place], looks);
@@ -453,7 +470,7 @@ impl Parts {
         ensures indexed { AreIndexed centre.now advance.to self.new.peers.items
             self.new.indexes.items }
         ensures looks { looks.new ≤ looks.old
-            + due_total advance.from advance.to self.old.peers.items }
+            + 3 * due_total advance.from advance.to self.old.peers.items }
     {
         for peer in 0..centre.peers() {
             self.report_tick(centre, peer, advance, looks);
@@ -538,7 +555,7 @@ impl Parts {
             ≡ slice_get self.old.indexes.items other }
         ensures many { length self.new.indexes.items ≡ length self.old.indexes.items }
         ensures looks { (part : AnyPeer) → slice_get self.old.peers.items peer ≡ Some part
-            → looks.new ≤ looks.old + planned_count part.plan }
+            → looks.new ≤ looks.old + 2 * planned_count part.plan }
     {
         let place = peer as usize;
         self.peers[place].note(change, &mut self.indexes[place], looks);
@@ -561,7 +578,7 @@ impl Parts {
         ensures same { changed ≡ false → self.new.peers.items ≡ self.old.peers.items }
         ensures indexed { AreIndexed centre.now change.now self.new.peers.items
             self.new.indexes.items }
-        ensures looks { looks.new ≤ looks.old + plan_total self.old.peers.items }
+        ensures looks { looks.new ≤ looks.old + 2 * plan_total self.old.peers.items }
     {
         if changed {
             self.note_each(centre, change, looks);
@@ -581,7 +598,7 @@ impl Parts {
             self.old.peers.items self.new.peers.items }
         ensures indexed { AreIndexed centre.now change.now self.new.peers.items
             self.new.indexes.items }
-        ensures looks { looks.new ≤ looks.old + plan_total self.old.peers.items }
+        ensures looks { looks.new ≤ looks.old + 2 * plan_total self.old.peers.items }
     {
         let Change { now, value, cov } = change;
         for peer in 0..centre.peers() {
@@ -607,4 +624,79 @@ pub fn peer_view<'a>(
     let part = parts.part(peer);
     let table = InForce::new(centre, peer, part.variant);
     PeerView::new(peer, table, &part.book, &part.slots, plant)
+}
+
+/// What a write of variables asks, in order, and room for what comes of it.
+#[derive(Drop)]
+pub struct Writing {
+    pub asked: Vec<Asked>,
+    pub left: Vec<Asked>,
+    pub results: Vec<Option<u8>>,
+}
+
+/// What a write by an association of a peer asks, by the peer's table in force, and room for what
+/// comes of each variable.
+pub fn read_writing(
+    alloc: Global,
+    centre: &Centre,
+    parts: &Parts,
+    peer: u32,
+    event: &Event,
+) -> Result<Writing, AllocError>
+    requires write { IsRequestOf sorts.Write event.now }
+    requires lawful { IsCentre centre.now }
+    requires there { IsPeerThere centre.now parts.now.peers.items peer }
+    ensures value { IfOk result (λ w. (part : AnyPeer) (names : List ObjectName)
+        (values : List Datum) → slice_get parts.now.peers.items peer ≡ Some part
+        → event.now ≡ Request (AnyCall.Write names values)
+        → w.asked.items ≡ all_asked centre.now (offered (table_at centre.now peer part.variant))
+        names values) }
+    ensures there { IfOk result (λ w. All (IsAskedThere (length centre.now.devices))
+        w.asked.items) }
+    ensures left { IfOk result (λ w. w.left.items ≡ []) }
+    ensures results { IfOk result (λ w. w.results.items ≡ []) }
+    ensures left_room { IfOk result (λ w. vec_len w.left + length w.asked.items
+        ≤ vec_capacity w.left) }
+    ensures results_room { IfOk result (λ w. vec_len w.results + length w.asked.items
+        ≤ vec_capacity w.results) }
+{
+    let asked = asked_writes(alloc, centre, parts, peer, event)?;
+    let left = Vec::with_capacity(alloc, asked.len())?;
+    let results = Vec::with_capacity(alloc, asked.len())?;
+    Ok(Writing {
+        asked,
+        left,
+        results,
+    })
+}
+
+/// What a write of variables by an association of a peer asks, in order, by the peer's table in
+/// force.
+fn asked_writes(
+    alloc: Global,
+    centre: &Centre,
+    parts: &Parts,
+    peer: u32,
+    event: &Event,
+) -> Result<Vec<Asked>, AllocError>
+    requires write { IsRequestOf sorts.Write event.now }
+    requires lawful { IsCentre centre.now }
+    requires there { IsPeerThere centre.now parts.now.peers.items peer }
+    ensures value { IfOk result (λ asked. (part : AnyPeer) (names : List ObjectName)
+        (values : List Datum) → slice_get parts.now.peers.items peer ≡ Some part
+        → event.now ≡ Request (AnyCall.Write names values)
+        → asked.items ≡ all_asked centre.now (offered (table_at centre.now peer part.variant))
+        names values) }
+    ensures there { IfOk result (λ asked. All (IsAskedThere (length centre.now.devices))
+        asked.items) }
+{
+    let EventKind::Request { call } = event.kind() else {
+        unreachable!();
+    };
+    let CallKind::Write { names, values } = call.kind() else {
+        unreachable!();
+    };
+    let part = parts.part(peer);
+    let table = InForce::new(centre, peer, part.variant);
+    read_writes(alloc, &table, names.as_slice(), values.as_slice())
 }

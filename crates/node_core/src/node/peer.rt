@@ -10,24 +10,26 @@ ghost use Rattle.tase_views.specs.OwnTables.{OwnTable};
 ghost use Rattle.tase_views.specs.View.{moment_in};
 ghost use Rattle.tase_views.specs.Reports.{reports_by};
 ghost use Rattle.node_core.specs.Slots.Associations.{new_association, association_at, open_without};
-ghost use Rattle.node_core.specs.Slots.Associations.{behind_take, made_for};
+ghost use Rattle.node_core.specs.Slots.Associations.{behind_take, made_for, undrafted};
 ghost use Rattle.node_core.specs.Objects.Found.{IsThere};
-ghost use Rattle.node_core.specs.Replies.Shown.{IsShowable, shown_of, InEachView};
+ghost use Rattle.node_core.specs.Replies.Shown.{IsShowable, shown_by, shown_of, InEachView};
 ghost use Rattle.node_core.specs.Slots.SetsKept.{left_by};
 ghost use Rattle.node_core.specs.Slots.SlotsKept.{is_kept, handed_all, AreSlots};
 ghost use Rattle.node_core.specs.Slots.SlotWrites.{IsAskedThere, all_answers, all_slots};
 ghost use Rattle.transfer_sets.specs.DueIndex.{IsDueIndex};
+ghost use Rattle.transfer_sets.specs.LookCount.Counted.{looked};
 ghost use Rattle.bilateral.specs.Rows.{point_of};
 ghost use Rattle.node_core.specs.declared.feeds.cause.ReportCause.{ReportCause as AnyCause};
 ghost use Rattle.node_core.specs.Objects.Found.{offered, table_at};
 ghost use Rattle.node_core.specs.Feeds.Indexed.{IsWatch};
-ghost use Rattle.node_core.specs.Feeds.SlotFeeds.{move_of, moment_before, HasPlanRoom, IsForward};
+ghost use Rattle.node_core.specs.Feeds.SlotFeeds.{move_of, moment_at, moment_before, HasPlanRoom};
+ghost use Rattle.node_core.specs.Feeds.SlotFeeds.{IsForward};
 ghost use Rattle.node_core.specs.Feeds.SlotFeeds.{due_count, watch_count, planned_count};
 ghost use Rattle.node_core.specs.Feeds.SlotFeeds.{conditions_by};
 ghost use Rattle.node_core.specs.PeerParts.{new_part, settled_by};
 ghost use Rattle.node_core.specs.PartFeeds.{IsAlike, IsDrafted, IsReported, IsReady, IsNoted};
 ghost use Rattle.node_core.specs.PartFeeds.{AreDraftedMore};
-ghost use Rattle.transfer_sets.specs.Banks.{slot_at, is_owned_by};
+ghost use Rattle.transfer_sets.specs.Banks.{slot_at};
 ghost use Rattle.tase_views.specs.View.{held};
 ghost use Rattle.tase_views.specs.Reports.{timeout_report, own_reports, slot_state};
 
@@ -100,8 +102,9 @@ impl Peer {
         Ok(())
     }
 
-    /// An association of it is closed; the table chosen last allows so many data sets.
-    pub fn close(&mut self, alloc: Global, ordinal: u64, limit: u32)
+    /// An association of it is closed; the table chosen last allows so many data sets. It takes no
+    /// memory.
+    pub fn close(&mut self, ordinal: u64, limit: u32, looks: &mut Looks)
         ensures { self.new ≡ settled_by limit (record self.old {
           open_now = self.old.open_now - 1;
           associations = open_without ordinal self.old.associations;
@@ -110,26 +113,26 @@ impl Peer {
     {
         self.open_now = self.open_now.saturating_sub(1);
         self.associations.close(ordinal);
-        self.slots.free(alloc, ordinal);
-        self.settle(alloc, limit);
+        self.slots.free(looks, ordinal);
+        self.settle(limit);
     }
 
     /// A table is chosen for it, which allows so many data sets.
-    pub fn choose(&mut self, alloc: Global, variant: u32, limit: u32)
+    pub fn choose(&mut self, variant: u32, limit: u32)
         ensures { self.new ≡ settled_by limit (record self.old { chosen_last = variant }) }
     {
         self.chosen_last = variant;
-        self.settle(alloc, limit);
+        self.settle(limit);
     }
 
     /// Brings the table that was chosen last into force, where no association is open. It takes no
     /// memory.
-    fn settle(&mut self, alloc: Global, limit: u32)
+    fn settle(&mut self, limit: u32)
         ensures { self.new ≡ settled_by limit self.old }
     {
         if self.open_now == 0 && self.chosen_last != self.variant {
             self.variant = self.chosen_last;
-            self.book = SetBook::new(alloc, limit);
+            self.book.restart(limit);
         }
     }
 
@@ -149,25 +152,25 @@ impl Peer {
 
     /// Deletes the data sets of a domain that are named, unless one of the first so many transfer
     /// sets wishes them.
-    pub fn delete(&mut self, domain: &Visible, count: u32, sets: &[Name])
+    pub fn delete(&mut self, domain: &Visible, count: u32, sets: &[Name], looks: &mut Looks)
         requires { count ≤ length self.old.slots }
         ensures { self.new ≡ record self.old {
           book = left_by (is_kept domain.now count self.old.slots) domain.now sets.now
               self.old.book;
         } }
     {
-        delete_sets(domain, &mut self.book, &self.slots, count, sets);
+        delete_sets(domain, &mut self.book, &self.slots, count, sets, looks);
     }
 
     /// Hands transfer sets out to an association, in order. It takes no memory.
-    pub fn hand_out(&mut self, alloc: Global, ordinal: u64, handed: &[u32])
+    pub fn hand_out(&mut self, ordinal: u64, handed: &[u32], looks: &mut Looks)
         requires many { length self.old.slots ≡ SLOTS }
         requires there { AreSlots handed.now }
         ensures { self.new ≡ record self.old {
           slots = handed_all ordinal handed.now self.old.slots;
         } }
     {
-        hand_out_all(alloc, &mut self.slots, ordinal, handed);
+        hand_out_all(&mut self.slots, ordinal, handed, looks);
     }
 
     /// Does what writes of an association ask, at this moment, and appends what comes of each. It
@@ -179,6 +182,7 @@ impl Peer {
         now: u64,
         asked: Vec<Asked>,
         results: &mut Vec<Option<u8>>,
+        looks: &mut Looks,
     )
         requires many { length self.old.slots ≡ SLOTS }
         requires there { All (IsAskedThere 0) asked.items }
@@ -199,6 +203,7 @@ impl Peer {
             now,
             asked,
             results,
+            looks,
         );
     }
 
@@ -221,6 +226,7 @@ impl Peer {
         number: u32,
         plant: &Plant,
         cause: ReportCause,
+        looks: &mut Looks,
     ) -> Result<(), AllocError>
         requires there { IsThere centre.now number self.old.variant }
         requires shown { IsShowable (shown_of centre.now number self.old plant.now) }
@@ -228,7 +234,7 @@ impl Peer {
         ensures ok { OnOk result (IsDrafted centre.now number plant.now cause self.new) }
     {
         for place in 0..self.associations.len() {
-            let reports = self.reports(alloc, centre, number, plant, place, cause)?;
+            let reports = self.reports(alloc, centre, number, plant, place, cause, looks)?;
             self.associations.draft(place, reports)?;
         }
         Ok(())
@@ -243,6 +249,7 @@ impl Peer {
         plant: &Plant,
         place: usize,
         cause: ReportCause,
+        looks: &mut Looks,
     ) -> Result<Reports, AllocError>
         requires there { IsThere centre.now number self.now.variant }
         requires shown { IsShowable (shown_of centre.now number self.now plant.now) }
@@ -254,7 +261,7 @@ impl Peer {
     {
         let table = InForce::new(centre, number, self.variant);
         let shown = PeerView::new(number, table, &self.book, &self.slots, plant);
-        shown.reports(alloc, self.associations.ordinal(place), cause)
+        shown.reports(alloc, self.associations.ordinal(place), cause, looks)
     }
 
     /// Drafts for each association the reports that a tick makes. `number` is that of the peer. It
@@ -289,8 +296,7 @@ impl Peer {
         }
         for slot in 0..self.slot_count(centre, number) {
             if index.dues.has_come(slot, advance.to) {
-                looks.add();
-                self.draft_slot(alloc, centre, number, plant, slot, advance)?;
+                self.draft_slot(alloc, centre, number, plant, slot, advance, looks)?;
             }
         }
         Ok(())
@@ -337,7 +343,8 @@ impl Peer {
         Ok(made)
     }
 
-    /// Adds to the drafts of the owner of a transfer set the reports that a tick makes of it.
+    /// Adds to the drafts of the owner of a transfer set the reports that a tick makes of it. It
+    /// looks at the transfer set once.
     fn draft_slot(
         &mut self,
         alloc: Global,
@@ -346,6 +353,7 @@ impl Peer {
         plant: &Plant,
         slot: u32,
         advance: Advance,
+        looks: &mut Looks,
     ) -> Result<(), AllocError>
         requires there { IsThere centre.now number self.old.variant }
         requires shown { IsShowable (shown_of centre.now number self.old plant.now) }
@@ -357,39 +365,21 @@ impl Peer {
             (λ s. conditions_by (AnyCause.Tick advance.from advance.to) s
             (slot_state tables view s)) slot)
             self.old.associations self.new.associations) }
+        ensures looks { looks.new ≡ looked looks.old 1 }
     {
-        for place in 0..self.associations.len() {
-            if owns(&self.slots, self.associations.ordinal(place), slot) {
-                let made = self.slot_reports(alloc, centre, number, plant, slot, advance)?;
-                self.associations.draft_more(place, made)?;
-            }
-        }
-        Ok(())
-    }
-
-    /// The reports that a tick makes of a transfer set.
-    fn slot_reports(
-        &self,
-        alloc: Global,
-        centre: &Centre,
-        number: u32,
-        plant: &Plant,
-        slot: u32,
-        advance: Advance,
-    ) -> Result<Reports, AllocError>
-        requires there { IsThere centre.now number self.now.variant }
-        requires shown { IsShowable (shown_of centre.now number self.now plant.now) }
-        requires slot { slot < SLOTS }
-        ensures { IfOk result (λ made. InEachView (shown_of centre.now number self.now plant.now)
-            (λ tables view. (ordinal : ℕ)
-            → is_owned_by ordinal (slot_at self.now.slots slot) ≡ true
-            → made ≡ own_reports tables view ordinal advance.to
-            (λ s. conditions_by (AnyCause.Tick advance.from advance.to) s
-            (slot_state tables view s)) slot)) }
-    {
-        let table = InForce::new(centre, number, self.variant);
-        let shown = PeerView::new(number, table, &self.book, &self.slots, plant);
-        shown.slot_reports(alloc, advance.cause(), slot)
+        draft_own(
+            &mut self.associations,
+            alloc,
+            centre,
+            number,
+            self.variant,
+            &self.book,
+            &self.slots,
+            plant,
+            slot,
+            advance.cause(),
+            looks,
+        )
     }
 
     /// Notes the reports of a tick that were drafted, and that all is told of the transfer sets of
@@ -402,7 +392,8 @@ impl Peer {
         ensures reported { IsReported (AnyCause.Tick advance.from advance.to) self.old self.new }
         ensures dues { IsDueIndex self.new.slots advance.to index.new.dues }
         ensures watch { index.new.watch ≡ index.old.watch }
-        ensures looks { looks.new ≤ looks.old + due_count advance.from advance.to self.old.slots }
+        ensures looks { looks.new ≤ looks.old
+            + 3 * due_count advance.from advance.to self.old.slots }
     {
         self.associations.keep_drafts();
         report_due(&mut self.slots, advance, &mut index.dues, looks);
@@ -410,12 +401,12 @@ impl Peer {
 
     /// Notes the reports that were drafted, and that all is told of the transfer sets of which the
     /// cause makes one. It takes no memory.
-    pub fn report(&mut self, cause: ReportCause)
+    pub fn report(&mut self, cause: ReportCause, looks: &mut Looks)
         requires { length self.old.slots ≡ SLOTS }
         ensures { IsReported cause self.old self.new }
     {
         self.associations.keep_drafts();
-        report_all(&mut self.slots, cause);
+        report_all(&mut self.slots, cause, looks);
     }
 
     /// Plans a change of a point, and makes room for it. `number` is that of the peer. It looks at
@@ -458,7 +449,7 @@ impl Peer {
             ≡ (slot_at self.old.slots s).state.wish }
         ensures dues { IsDueIndex self.new.slots change.now index.new.dues }
         ensures watch { index.new.watch ≡ index.old.watch }
-        ensures looks { looks.new ≤ looks.old + planned_count self.old.plan }
+        ensures looks { looks.new ≤ looks.old + 2 * planned_count self.old.plan }
     {
         self.plan
             .note(&mut self.slots, change, &mut index.dues, looks);
@@ -466,12 +457,51 @@ impl Peer {
 }
 
 /// Hands transfer sets out to an association, in order.
-fn hand_out_all(alloc: Global, slots: &mut SlotBank, ordinal: u64, handed: &[u32])
+fn hand_out_all(slots: &mut SlotBank, ordinal: u64, handed: &[u32], looks: &mut Looks)
     requires many { length slots.old ≡ SLOTS }
     requires there { AreSlots handed.now }
     ensures { slots.new ≡ handed_all ordinal handed.now slots.old }
 {
     for slot in handed {
-        slots.hand_out(alloc, *slot, ordinal);
+        slots.hand_out(looks, *slot, ordinal);
     }
+}
+
+/// Adds to the drafts of the association that owns a transfer set the reports that a cause makes of
+/// it, by what its peer is shown. It looks at the transfer set once.
+fn draft_own(
+    associations: &mut Associations,
+    alloc: Global,
+    centre: &Centre,
+    number: u32,
+    variant: u32,
+    book: &SetBook,
+    slots: &SlotBank,
+    plant: &Plant,
+    slot: u32,
+    cause: ReportCause,
+    looks: &mut Looks,
+) -> Result<(), AllocError>
+    requires there { IsThere centre.now number variant }
+    requires shown { IsShowable (shown_by number (table_at centre.now number variant) book.now
+        slots.now plant.now) }
+    requires slot { slot < SLOTS }
+    ensures made { map undrafted associations.new ≡ map undrafted associations.old }
+    ensures ok { OnOk result (AreDraftedMore (shown_by number (table_at centre.now number variant)
+        book.now slots.now plant.now)
+        (λ tables view ordinal. own_reports tables view ordinal (moment_at cause)
+        (λ s. conditions_by cause s (slot_state tables view s)) slot)
+        associations.old associations.new) }
+    ensures looks { looks.new ≡ looked looks.old 1 }
+{
+    let table = InForce::new(centre, number, variant);
+    let shown = PeerView::new(number, table, book, slots, plant);
+    let own = slots.look(looks, slot);
+    for place in 0..associations.len() {
+        if owns(own, associations.ordinal(place)) {
+            let made = shown.slot_reports(alloc, cause, slot, own)?;
+            associations.draft_more(place, made)?;
+        }
+    }
+    Ok(())
 }

@@ -28,7 +28,7 @@ ghost use Rattle.node_core.specs.Slots.SlotsKept.{HasDrafted};
 ghost use Rattle.node_core.specs.Slots.SlotsKept.{HandsOut};
 ghost use Rattle.node_core.specs.Replies.Shown.{InEachView, shown_by, IsShowable, IsCalm};
 
-use crate::objects::{Found, InForce, Special, find_object, list_names, slot_item};
+use crate::objects::{Found, InForce, Special, find_object, list_names, slot_item, type_of};
 use crate::plant::Plant;
 use crate::slots::{Draft, define_reply, delete_reply, find_set, members_reply};
 use ber_values::{BitString, Visible};
@@ -43,7 +43,7 @@ use tase_views::{
     ACCESS_DENIED, ACCESS_ERRORS, Call, CallKind, NON_EXISTENT, OBJECT_ACCESS_DENIED,
     OBJECT_ACCESS_UNSUPPORTED, OBJECT_NON_EXISTENT, ReadSpec, Reply, ReplyKind, Results,
 };
-use transfer_sets::SlotBank;
+use transfer_sets::{Looks, SlotBank};
 
 /// The reason of an access that an object isn't there just now (ISO 9506-2, `DataAccessError`:
 /// temporarily-unavailable).
@@ -134,16 +134,28 @@ impl<'a> PeerView<'a> {
 
     /// The reply to a call of an association of the peer, but for a read and a write of variables,
     /// which do something.
-    pub fn reply_to(&self, alloc: Global, ordinal: u64, call: &Call) -> Result<Reply, AllocError>
+    pub fn reply_to(
+        &self,
+        alloc: Global,
+        ordinal: u64,
+        call: &Call,
+        looks: &mut Looks,
+    ) -> Result<Reply, AllocError>
         requires { IsCalm call.now }
         ensures { IfOk result (λ reply. InEachView self.now (λ tables view. reply
             ≡ answers.reply_to tables view ordinal call.now)) }
     {
-        let kind = self.reply_kind(alloc, ordinal, call)?;
+        let kind = self.reply_kind(alloc, ordinal, call, looks)?;
         Ok(Reply::new(kind))
     }
 
-    fn reply_kind(&self, alloc: Global, ordinal: u64, call: &Call) -> Result<ReplyKind, AllocError>
+    fn reply_kind(
+        &self,
+        alloc: Global,
+        ordinal: u64,
+        call: &Call,
+        looks: &mut Looks,
+    ) -> Result<ReplyKind, AllocError>
         requires { IsCalm call.now }
         ensures value { IfOk result (λ kind. InEachView self.now (λ tables view. kind
             ≡ answers.reply_to tables view ordinal call.now)) }
@@ -152,16 +164,19 @@ impl<'a> PeerView<'a> {
         match call.kind() {
             CallKind::Identify => Ok(ReplyKind::Identified),
             CallKind::Read { .. } => unreachable!(),
-            CallKind::ReadSet { set, echo } => self.read_set_reply(alloc, ordinal, set, *echo),
+            CallKind::ReadSet { set, echo } => {
+                self.read_set_reply(alloc, ordinal, set, *echo, looks)
+            }
             CallKind::Write { .. } => unreachable!(),
             CallKind::NameList {
                 class,
                 scope,
                 after,
             } => self.list_reply(alloc, *class, scope, after),
+            CallKind::TypeOf { name } => self.type_reply(alloc, name),
             CallKind::Define { set, members } => Ok(self.definition_reply(set, members)),
             CallKind::MembersOf { set } => self.set_reply(set),
-            CallKind::Delete { sets } => self.deletion_reply(sets),
+            CallKind::Delete { sets } => self.deletion_reply(sets, looks),
             CallKind::WriteSet { .. } | CallKind::DeleteScope { .. } => Ok(ReplyKind::Error {
                 class: ACCESS_ERRORS,
                 code: ACCESS_DENIED,
@@ -189,6 +204,21 @@ impl<'a> PeerView<'a> {
         list_names(alloc, &self.table, self.book, class, scope, after)
     }
 
+    /// The reply to a request for the type of a variable.
+    fn type_reply(&self, alloc: Global, name: &Name) -> Result<ReplyKind, AllocError>
+        ensures value { IfOk result (λ kind. InEachView self.now (λ tables view. (ordinal : ℕ)
+            → kind ≡ answers.reply_to tables view ordinal (AnyCall.TypeOf name.now))) }
+        ensures lawful { IfOk result IsReply }
+    {
+        match type_of(alloc, &self.table, name)? {
+            Some(shape) => Ok(ReplyKind::TypeIs(shape)),
+            None => Ok(ReplyKind::Error {
+                class: ACCESS_ERRORS,
+                code: NON_EXISTENT,
+            }),
+        }
+    }
+
     /// The reply to the definition of a data set.
     fn definition_reply(&self, set: &Name, members: &Names) -> ReplyKind
         ensures value { InEachView self.now (λ tables view. (ordinal : ℕ)
@@ -208,13 +238,20 @@ impl<'a> PeerView<'a> {
     }
 
     /// The reply to a deletion of data sets.
-    fn deletion_reply(&self, sets: &Names) -> Result<ReplyKind, AllocError>
+    fn deletion_reply(&self, sets: &Names, looks: &mut Looks) -> Result<ReplyKind, AllocError>
         ensures value { IfOk result (λ kind. InEachView self.now (λ tables view. (ordinal : ℕ)
             → kind ≡ answers.reply_to tables view ordinal (AnyCall.Delete sets.now))) }
         ensures lawful { IfOk result IsReply }
     {
         let table = self.table.table();
-        delete_reply(&table.domain, self.book, self.slots, table.slots, sets)
+        delete_reply(
+            &table.domain,
+            self.book,
+            self.slots,
+            table.slots,
+            sets,
+            looks,
+        )
     }
 
     /// The reply to a read of a data set by an association: its members are read in order.
@@ -224,6 +261,7 @@ impl<'a> PeerView<'a> {
         ordinal: u64,
         set: &Name,
         echo: bool,
+        looks: &mut Looks,
     ) -> Result<ReplyKind, AllocError>
         ensures value { IfOk result (λ kind. InEachView self.now (λ tables view. kind
             ≡ answers.reply_to tables view ordinal (AnyCall.ReadSet set.now echo))) }
@@ -237,7 +275,7 @@ impl<'a> PeerView<'a> {
         };
         let spec = repeated_set(set, echo)?;
         let mut draft = Draft::new(alloc, self.slots, ordinal);
-        let results = self.read(alloc, &mut draft, members)?;
+        let results = self.read(alloc, &mut draft, members, looks)?;
         Ok(ReplyKind::Results { spec, results })
     }
 
@@ -248,6 +286,7 @@ impl<'a> PeerView<'a> {
         ordinal: u64,
         names: &Names,
         echo: bool,
+        looks: &mut Looks,
     ) -> Result<ReadReply, AllocError>
         requires some { 0 < length names.now }
         ensures value { IfOk result (λ done. InEachView self.now (λ tables view. done.reply
@@ -258,7 +297,7 @@ impl<'a> PeerView<'a> {
         let _lawful = self.table.table();
         let spec = repeated(names, echo)?;
         let mut draft = Draft::new(alloc, self.slots, ordinal);
-        let results = self.read(alloc, &mut draft, names)?;
+        let results = self.read(alloc, &mut draft, names, looks)?;
         Ok(ReadReply {
             reply: Reply::new(ReplyKind::Results { spec, results }),
             handed: draft.into_handed(),
@@ -271,6 +310,7 @@ impl<'a> PeerView<'a> {
         alloc: Global,
         draft: &mut Draft<'_>,
         names: &Names,
+        looks: &mut Looks,
     ) -> Result<Results, AllocError>
         ensures value { IfOk result (λ results. InEachView self.now (λ tables view. results
             ≡ outcomes_shown tables (offered self.now.table) view draft.old.ordinal names.now
@@ -281,7 +321,7 @@ impl<'a> PeerView<'a> {
     {
         let mut results = Results::new(alloc);
         for name in names.as_slice() {
-            results.push(self.read_one(alloc, draft, name)?)?;
+            results.push(self.read_one(alloc, draft, name, looks)?)?;
         }
         Ok(results)
     }
@@ -291,6 +331,7 @@ impl<'a> PeerView<'a> {
         alloc: Global,
         draft: &mut Draft<'_>,
         name: &Name,
+        looks: &mut Looks,
     ) -> Result<Outcome, AllocError>
         ensures value { IfOk result (λ outcome. InEachView self.now (λ tables view. outcome
             ≡ object_shown tables (offered self.now.table) view draft.old.ordinal
@@ -302,9 +343,9 @@ impl<'a> PeerView<'a> {
         let table = self.table.table();
         match find_object(&self.table, name) {
             Some(Found::Special(special)) => read_special(alloc, &table.id, special),
-            Some(Found::NextSlot) => read_next(alloc, table, draft),
-            Some(Found::Slot(slot)) => read_slot(alloc, draft, slot),
-            Some(Found::SlotStatus(slot)) => Ok(read_status(draft, slot)),
+            Some(Found::NextSlot) => read_next(alloc, table, draft, looks),
+            Some(Found::Slot(slot)) => read_slot(alloc, draft, slot, looks),
+            Some(Found::SlotStatus(slot)) => Ok(read_status(draft, slot, looks)),
             Some(Found::Selection(control)) => Ok(self.read_selection(draft.ordinal(), control)),
             Some(Found::DeviceTag(control)) => self.read_tag(alloc, control),
             Some(Found::ControlPoint(_) | Found::Timeout(_)) => {
@@ -413,7 +454,12 @@ fn read_special(alloc: Global, id: &Visible, special: Special) -> Result<Outcome
 
 /// Hands the first transfer set that nobody owns out to the association, whose name it reads; if
 /// there is one.
-fn read_next(alloc: Global, table: &Table, draft: &mut Draft<'_>) -> Result<Outcome, AllocError>
+fn read_next(
+    alloc: Global,
+    table: &Table,
+    draft: &mut Draft<'_>,
+    looks: &mut Looks,
+) -> Result<Outcome, AllocError>
     requires few { table.now.slots ≤ SLOT_LIMIT }
     ensures value { (own : OwnTable) → own.domain ≡ table.now.domain → own.slots ≡ table.now.slots
         → IfOk result (λ outcome. outcome ≡ option_map_or (λ s. Good (answers.slot_name own s))
@@ -422,7 +468,7 @@ fn read_next(alloc: Global, table: &Table, draft: &mut Draft<'_>) -> Result<Outc
         (first_free table.now.slots (drafted draft.old)) (drafted draft.old))) }
     ensures lawful { IfOk result IsLawfulOutcome }
 {
-    let Some(slot) = draft.first_free(table.slots) else {
+    let Some(slot) = draft.first_free(table.slots, looks) else {
         return Ok(Outcome::Fail(TEMPORARILY_UNAVAILABLE));
     };
     let name = slot_name(alloc, &table.domain, slot)?;
@@ -431,30 +477,35 @@ fn read_next(alloc: Global, table: &Table, draft: &mut Draft<'_>) -> Result<Outc
 }
 
 /// What is wished of a transfer set, as its owner reads it.
-fn read_slot(alloc: Global, draft: &Draft<'_>, slot: u32) -> Result<Outcome, AllocError>
+fn read_slot(
+    alloc: Global,
+    draft: &Draft<'_>,
+    slot: u32,
+    looks: &mut Looks,
+) -> Result<Outcome, AllocError>
     requires { slot < SLOT_LIMIT }
     ensures value { IfOk result (λ outcome. outcome ≡ shown_to draft.now.ordinal
         (slot_at (drafted draft.now) slot)
         (shown_wish (slot_at (drafted draft.now) slot).state.wish)) }
     ensures lawful { IfOk result IsLawfulOutcome }
 {
-    if !draft.owns(slot) {
+    if !draft.owns(slot, looks) {
         return Ok(Outcome::Fail(OBJECT_ACCESS_DENIED));
     }
-    Ok(Outcome::Good(draft.wish(alloc, slot)?))
+    Ok(Outcome::Good(draft.wish(alloc, slot, looks)?))
 }
 
 /// Whether a transfer set is enabled, as its owner reads it.
-fn read_status(draft: &Draft<'_>, slot: u32) -> Outcome
+fn read_status(draft: &Draft<'_>, slot: u32, looks: &mut Looks) -> Outcome
     requires { slot < SLOT_LIMIT }
     ensures value { result ≡ shown_to draft.now.ordinal (slot_at (drafted draft.now) slot)
         (boolean (slot_at (drafted draft.now) slot).state.wish.status) }
     ensures lawful { IsLawfulOutcome result }
 {
-    if !draft.owns(slot) {
+    if !draft.owns(slot, looks) {
         return Outcome::Fail(OBJECT_ACCESS_DENIED);
     }
-    Outcome::Good(MmsData::new(DataKind::Boolean(draft.status(slot))))
+    Outcome::Good(MmsData::new(DataKind::Boolean(draft.status(slot, looks))))
 }
 
 /// The name of a transfer set of a domain as data: scope, domain, item.

@@ -34,7 +34,7 @@ use mms_data::{DataKind, MmsData, Name, Names, Outcome, Scope};
 use point_data::to_data;
 use std::alloc::{AllocError, Global};
 use tase_views::{OBJECT_NON_EXISTENT, Report, ReportKind, Reports, Results};
-use transfer_sets::{NOTED_LIMIT, Noted, SlotBank, Wish};
+use transfer_sets::{Looks, NOTED_LIMIT, Noted, OwnSlot, Wish};
 
 /// What a report is made of: its transfer set, its moment in milliseconds since 1970, and its
 /// conditions as their sum.
@@ -52,32 +52,35 @@ impl<'a> PeerView<'a> {
         alloc: Global,
         ordinal: u64,
         cause: ReportCause,
+        looks: &mut Looks,
     ) -> Result<Reports, AllocError>
         ensures { IfOk result (λ made. InEachView self.now (λ tables view.
             moment_in view ≡ moment_before cause
             → made ≡ reports.reports_by tables view ordinal (move_of cause))) }
     {
         match cause {
-            ReportCause::Tick { from, to } => tick_reports(self, alloc, ordinal, from, to),
-            ReportCause::Ask { slot, now } => asked_reports(self, alloc, ordinal, slot, now),
+            ReportCause::Tick { from, to } => tick_reports(self, alloc, ordinal, from, to, looks),
+            ReportCause::Ask { slot, now } => asked_reports(self, alloc, ordinal, slot, now, looks),
         }
     }
 
-    /// The reports that a cause makes of a transfer set, for its owner.
+    /// The reports that a cause makes of a transfer set, which is lent, for its owner.
     pub fn slot_reports(
         &self,
         alloc: Global,
         cause: ReportCause,
         slot: u32,
+        own: &OwnSlot,
     ) -> Result<Reports, AllocError>
-        requires { slot < SLOTS }
+        requires slot { slot < SLOTS }
+        requires own { own.now ≡ slot_at self.now.slots slot }
         ensures { IfOk result (λ made. InEachView self.now (λ tables view. (ordinal : ℕ)
             → is_owned_by ordinal (slot_at self.now.slots slot) ≡ true
             → made ≡ reports.own_reports tables view ordinal (moment_at cause)
             (λ s. conditions_by cause s (slot_state tables view s)) slot)) }
     {
         let mut made = Reports::new(alloc);
-        add_reports(self, alloc, cause, slot, &mut made)?;
+        add_reports(self, alloc, cause, slot, own, &mut made)?;
         Ok(made)
     }
 }
@@ -89,6 +92,7 @@ fn tick_reports(
     ordinal: u64,
     from: u64,
     to: u64,
+    looks: &mut Looks,
 ) -> Result<Reports, AllocError>
     ensures { IfOk result (λ made. InEachView shown.now (λ tables view. moment_in view ≡ from
         → made ≡ reports.reports_by tables view ordinal (move_of (ReportCause.Tick from to)))) }
@@ -97,7 +101,7 @@ fn tick_reports(
     add_timeouts(shown, alloc, ordinal, to, &mut made)?;
     for slot in 0..shown.table().table().slots {
         let cause = ReportCause::Tick { from, to };
-        add_own(shown, alloc, ordinal, cause, slot, &mut made)?;
+        add_own(shown, alloc, ordinal, cause, slot, &mut made, looks)?;
     }
     Ok(made)
 }
@@ -109,6 +113,7 @@ fn asked_reports(
     ordinal: u64,
     slot: u32,
     now: u64,
+    looks: &mut Looks,
 ) -> Result<Reports, AllocError>
     ensures { IfOk result (λ made. InEachView shown.now (λ tables view. moment_in view ≡ now
         → made ≡ reports.reports_by tables view ordinal (move_of (ReportCause.Ask slot now)))) }
@@ -116,7 +121,7 @@ fn asked_reports(
     let mut made = Reports::new(alloc);
     if u64::from(slot) < SLOT_LIMIT {
         let cause = ReportCause::Ask { slot, now };
-        add_own(shown, alloc, ordinal, cause, slot, &mut made)?;
+        add_own(shown, alloc, ordinal, cause, slot, &mut made, looks)?;
     }
     Ok(made)
 }
@@ -129,35 +134,38 @@ fn add_own(
     cause: ReportCause,
     slot: u32,
     made: &mut Reports,
+    looks: &mut Looks,
 ) -> Result<(), AllocError>
     requires { slot < SLOTS }
     ensures { OnOk result (InEachView shown.now (λ tables view. made.new ≡ made.old
         ++ reports.own_reports tables view ordinal (moment_at cause)
         (λ s. conditions_by cause s (slot_state tables view s)) slot)) }
 {
-    if !owns(shown.slots(), ordinal, slot) {
+    let own = shown.slots().look(looks, slot);
+    if !owns(own, ordinal) {
         return Ok(());
     }
-    add_reports(shown, alloc, cause, slot, made)
+    add_reports(shown, alloc, cause, slot, own, made)
 }
 
 /// Whether an association owns a transfer set.
-pub fn owns(bank: &SlotBank, ordinal: u64, slot: u32) -> bool
-    requires { slot < length bank.now }
-    ensures { result ≡ is_owned_by ordinal (slot_at bank.now slot) }
+pub fn owns(own: &OwnSlot, ordinal: u64) -> bool
+    ensures { result ≡ is_owned_by ordinal own.now }
 {
-    bank.owner(slot) == Some(ordinal)
+    own.owner() == Some(ordinal)
 }
 
-/// Adds the reports that a cause makes of a transfer set.
+/// Adds the reports that a cause makes of a transfer set, which is lent.
 fn add_reports(
     shown: &PeerView<'_>,
     alloc: Global,
     cause: ReportCause,
     slot: u32,
+    own: &OwnSlot,
     made: &mut Reports,
 ) -> Result<(), AllocError>
-    requires { slot < SLOTS }
+    requires slot { slot < SLOTS }
+    requires own { own.now ≡ slot_at shown.now.slots slot }
     ensures { OnOk result (InEachView shown.now (λ tables view.
         let table = offered shown.now.table in
         let state = (slot_at shown.now.slots slot).state in
@@ -165,8 +173,8 @@ fn add_reports(
         (conditions_by cause slot state) state
         (unwrap_or (wished_members table (members_in shown.now.book.sets) state.wish) []))) }
 {
-    let conditions = conditions_for(shown, cause, slot);
-    if !is_reported(shown, slot, conditions) {
+    let conditions = conditions_of(cause, own, slot);
+    if !makes_report(own, conditions) {
         return Ok(());
     }
     let occasion = Occasion {
@@ -174,49 +182,17 @@ fn add_reports(
         now: moment_of(cause),
         conditions,
     };
-    let wish = wish_of(shown, slot);
+    let wish = own.wish();
     let Some(members) = find_members(shown, wish) else {
         return Ok(());
     };
     if !tells_changes(wish, conditions) {
         add_whole(shown, alloc, occasion, &wish.set_name, members, made)
     } else if wish.all_changes {
-        add_changes(shown, alloc, occasion, members, noted_in(shown, slot), made)
+        add_changes(shown, alloc, occasion, members, own.noted(), made)
     } else {
-        add_changed(shown, alloc, occasion, members, noted_in(shown, slot), made)
+        add_changed(shown, alloc, occasion, members, own.noted(), made)
     }
-}
-
-/// The conditions, as their sum, that a cause brings about for a transfer set.
-fn conditions_for(shown: &PeerView<'_>, cause: ReportCause, slot: u32) -> u8
-    requires { slot < SLOTS }
-    ensures { result ≡ conditions_by cause slot (slot_at shown.now.slots slot).state }
-{
-    conditions_of(cause, shown.slots(), slot)
-}
-
-/// Whether conditions make a report of a transfer set.
-fn is_reported(shown: &PeerView<'_>, slot: u32, conditions: u8) -> bool
-    requires { slot < SLOTS }
-    ensures { result ≡ slots.makes_report (slot_at shown.now.slots slot).state conditions }
-{
-    makes_report(shown.slots(), slot, conditions)
-}
-
-/// What is wished of a transfer set.
-fn wish_of<'v>(shown: &'v PeerView<'_>, slot: u32) -> &'v Wish
-    requires { slot < SLOTS }
-    ensures { result.now ≡ (slot_at shown.now.slots slot).state.wish }
-{
-    shown.slots().wish(slot)
-}
-
-/// The members of a transfer set that changed since its last report.
-fn noted_in<'v>(shown: &'v PeerView<'_>, slot: u32) -> &'v [Noted]
-    requires { slot < SLOTS }
-    ensures { result.now ≡ (slot_at shown.now.slots slot).state.noted }
-{
-    shown.slots().noted(slot)
 }
 
 /// Whether conditions have changes told, and not the whole data set.

@@ -10,7 +10,7 @@ ghost use Rattle.node_core.specs.Slots.SlotsKept.{first_free, Drafted, drafted, 
 use mms_data::MmsData;
 use std::alloc::{AllocError, Global};
 use std::marker::Model;
-use transfer_sets::{SlotBank, Wish, wish_data};
+use transfer_sets::{Looks, SlotBank, Wish, wish_data};
 
 /// The transfer sets of a peer as an association finds them within a request: with those that the
 /// request has handed out to it so far.
@@ -75,34 +75,34 @@ impl<'a> Draft<'a> {
     }
 
     /// Whether the association owns a transfer set.
-    pub fn owns(&self, slot: u32) -> bool
+    pub fn owns(&self, slot: u32, looks: &mut Looks) -> bool
         requires { slot < SLOT_LIMIT }
         ensures { result ≡ is_owned_by self.now.ordinal (slot_at (drafted self.now) slot) }
     {
         if self.is_handed(slot) {
             return true;
         }
-        self.slots.owner(slot) == Some(self.ordinal)
+        self.slots.look(looks, slot).owner() == Some(self.ordinal)
     }
 
     /// Whether nobody owns a transfer set.
-    fn is_free(&self, slot: u32) -> bool
+    fn is_free(&self, slot: u32, looks: &mut Looks) -> bool
         requires { slot < SLOT_LIMIT }
         ensures { result ≡ is_none (slot_at (drafted self.now) slot).owner }
     {
         if self.is_handed(slot) {
             return false;
         }
-        self.slots.owner(slot).is_none()
+        self.slots.look(looks, slot).owner().is_none()
     }
 
     /// The first of so many transfer sets that nobody owns.
-    pub fn first_free(&self, count: u32) -> Option<u32>
+    pub fn first_free(&self, count: u32, looks: &mut Looks) -> Option<u32>
         requires { count ≤ SLOT_LIMIT }
         ensures { result ≡ first_free count (drafted self.now) }
     {
         for slot in 0..count {
-            if self.is_free(slot) {
+            if self.is_free(slot, looks) {
                 return Some(slot);
             }
         }
@@ -119,7 +119,7 @@ impl<'a> Draft<'a> {
     }
 
     /// What is wished of a transfer set, as data.
-    pub fn wish(&self, alloc: Global, slot: u32) -> Result<MmsData, AllocError>
+    pub fn wish(&self, alloc: Global, slot: u32, looks: &mut Looks) -> Result<MmsData, AllocError>
         requires { slot < SLOT_LIMIT }
         ensures value { IfOk result (λ shown. shown
             ≡ shown_wish (slot_at (drafted self.now) slot).state.wish) }
@@ -129,17 +129,17 @@ impl<'a> Draft<'a> {
             let nothing = Wish::empty(alloc);
             return wish_data(alloc, &nothing);
         }
-        wish_data(alloc, self.slots.wish(slot))
+        wish_data(alloc, self.slots.look(looks, slot).wish())
     }
 
     /// Whether a transfer set is enabled.
-    pub fn status(&self, slot: u32) -> bool
+    pub fn status(&self, slot: u32, looks: &mut Looks) -> bool
         requires { slot < SLOT_LIMIT }
         ensures { result ≡ (slot_at (drafted self.now) slot).state.wish.status }
     {
         if self.is_handed(slot) {
             return false;
         }
-        self.slots.wish(slot).status
+        self.slots.look(looks, slot).wish().status
     }
 }

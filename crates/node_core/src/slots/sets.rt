@@ -31,7 +31,7 @@ use tase_views::{
     ACCESS_DENIED, ACCESS_ERRORS, DEFINITION_ERRORS, EXISTS, NON_EXISTENT, OTHER, RESOURCE_ERRORS,
     ReplyKind, UNDEFINED,
 };
-use transfer_sets::{SlotBank, Wish};
+use transfer_sets::{Looks, SlotBank, Wish};
 
 /// The reply to the definition of a data set (ISO 9506-2, `DefineNamedVariableList`).
 pub fn define_reply(table: &InForce<'_>, book: &SetBook, set: &Name, members: &Names) -> ReplyKind
@@ -149,6 +149,7 @@ pub fn delete_reply(
     slots: &SlotBank,
     count: u32,
     names: &Names,
+    looks: &mut Looks,
 ) -> Result<ReplyKind, AllocError>
     requires { count ≤ length slots.now }
     ensures value { (tables : OwnTables) (view : View) (ordinal : ℕ)
@@ -166,9 +167,9 @@ pub fn delete_reply(
     let mut deleted = 0u32;
     for place in 0..names.len() {
         let name = &names[place];
-        if is_left(domain, book, slots, count, name, &names[..place]) {
+        if is_left(domain, book, slots, count, name, &names[..place], looks) {
             matched += 1;
-            if !is_kept(domain, slots, count, name.item()) {
+            if !is_kept(domain, slots, count, name.item(), looks) {
                 deleted += 1;
             }
         }
@@ -184,13 +185,15 @@ fn is_left(
     count: u32,
     name: &Name,
     before: &[Name],
+    looks: &mut Looks,
 ) -> bool
     requires { count ≤ length slots.now }
     ensures { result ≡ is_in_book domain.now
         (left_by (banks.is_kept domain.now count slots.now) domain.now before.now book.now)
         name.now }
 {
-    is_in_domain(domain, name) && is_set_left(domain, book, slots, count, name.item(), before)
+    is_in_domain(domain, name)
+        && is_set_left(domain, book, slots, count, name.item(), before, looks)
 }
 
 /// Whether a data set has this name behind deletions by these names.
@@ -201,25 +204,33 @@ fn is_set_left(
     count: u32,
     set: &Visible,
     names: &[Name],
+    looks: &mut Looks,
 ) -> bool
     requires { count ≤ length slots.now }
     ensures { result ≡ is_some (members_in
         (left_by (banks.is_kept domain.now count slots.now) domain.now names.now book.now).sets
         set.now) }
 {
-    if is_gone(domain, slots, count, set, names) {
+    if is_gone(domain, slots, count, set, names, looks) {
         return false;
     }
     has_set(book, set)
 }
 
 /// Whether deletions by these names take the data set with this name away.
-fn is_gone(domain: &Visible, slots: &SlotBank, count: u32, set: &Visible, names: &[Name]) -> bool
+fn is_gone(
+    domain: &Visible,
+    slots: &SlotBank,
+    count: u32,
+    set: &Visible,
+    names: &[Name],
+    looks: &mut Looks,
+) -> bool
     requires { count ≤ length slots.now }
     ensures { result ≡ is_named_in domain.now names.now set.now
         && not (banks.is_kept domain.now count slots.now set.now) }
 {
-    is_among(domain, set, names) && !is_kept(domain, slots, count, set)
+    is_among(domain, set, names) && !is_kept(domain, slots, count, set, looks)
 }
 
 /// Whether the data set with this name is among those that are named.
@@ -232,12 +243,12 @@ fn is_among(domain: &Visible, set: &Visible, names: &[Name]) -> bool
 }
 
 /// Whether an enabled one of the first so many transfer sets wishes this data set of a domain.
-fn is_kept(domain: &Visible, slots: &SlotBank, count: u32, set: &Visible) -> bool
+fn is_kept(domain: &Visible, slots: &SlotBank, count: u32, set: &Visible, looks: &mut Looks) -> bool
     requires { count ≤ length slots.now }
     ensures { result ≡ banks.is_kept domain.now count slots.now set.now }
 {
     for slot in 0..count {
-        if is_wish_for(slots.wish(slot), domain, set) {
+        if is_wish_for(slots.look(looks, slot).wish(), domain, set) {
             return true;
         }
     }
@@ -260,31 +271,45 @@ pub fn delete_sets(
     slots: &SlotBank,
     count: u32,
     names: &[Name],
+    looks: &mut Looks,
 )
     requires { count ≤ length slots.now }
     ensures { book.new
         ≡ left_by (banks.is_kept domain.now count slots.now) domain.now names.now book.old }
 {
     for name in names {
-        delete_set(domain, book, slots, count, name);
+        delete_set(domain, book, slots, count, name, looks);
     }
 }
 
-fn delete_set(domain: &Visible, book: &mut SetBook, slots: &SlotBank, count: u32, name: &Name)
+fn delete_set(
+    domain: &Visible,
+    book: &mut SetBook,
+    slots: &SlotBank,
+    count: u32,
+    name: &Name,
+    looks: &mut Looks,
+)
     requires { count ≤ length slots.now }
     ensures { book.new ≡ left_behind (banks.is_kept domain.now count slots.now) domain.now
         book.old name.now }
 {
-    if is_to_delete(domain, slots, count, name) {
+    if is_to_delete(domain, slots, count, name, looks) {
         book.delete(name.item());
     }
 }
 
 /// Whether a deletion by this name takes the data set with it away.
-fn is_to_delete(domain: &Visible, slots: &SlotBank, count: u32, name: &Name) -> bool
+fn is_to_delete(
+    domain: &Visible,
+    slots: &SlotBank,
+    count: u32,
+    name: &Name,
+    looks: &mut Looks,
+) -> bool
     requires { count ≤ length slots.now }
     ensures { result ≡ same_scope name.now.scope (InDomain domain.now)
         && not (banks.is_kept domain.now count slots.now name.now.item) }
 {
-    is_in_domain(domain, name) && !is_kept(domain, slots, count, name.item())
+    is_in_domain(domain, name) && !is_kept(domain, slots, count, name.item(), looks)
 }

@@ -17,7 +17,7 @@ ghost use Rattle.node_core.specs.Slots.SlotWrites.{all_answers, all_slots};
 use ber_values::Visible;
 use data_sets::SetBook;
 use tase_views::OBJECT_ACCESS_DENIED;
-use transfer_sets::{SlotBank, Wish, WishFault, may_enable};
+use transfer_sets::{Looks, SlotBank, Wish, WishFault, may_enable};
 
 /// The reason of an access that a value is of another type (ISO 9506-2, `DataAccessError`:
 /// type-inconsistent).
@@ -66,6 +66,7 @@ pub fn write_all(
     now: u64,
     asked: Vec<Asked>,
     results: &mut Vec<Option<u8>>,
+    looks: &mut Looks,
 )
     requires many { length slots.old ≡ SLOT_LIMIT }
     requires there { All (IsAskedThere 0) asked.items }
@@ -78,7 +79,7 @@ pub fn write_all(
     ensures many { length slots.new ≡ SLOT_LIMIT }
 {
     for one in asked {
-        let answer = write_one(domain, book, slots, ordinal, now, one);
+        let answer = write_one(domain, book, slots, ordinal, now, one, looks);
         results.push_reserved(answer);
     }
 }
@@ -91,6 +92,7 @@ fn write_one(
     ordinal: u64,
     now: u64,
     asked: Asked,
+    looks: &mut Looks,
 ) -> Option<u8>
     requires many { length slots.old ≡ SLOT_LIMIT }
     requires there { IsAskedThere 0 asked }
@@ -103,10 +105,10 @@ fn write_one(
     match asked {
         Asked::Answered(answer) => answer,
         Asked::Wished { slot, wish } => {
-            write_wish(domain, book, slots, ordinal, now, slot, wish)
+            write_wish(domain, book, slots, ordinal, now, slot, wish, looks)
         }
         Asked::Switched { slot, status } => {
-            write_status(domain, book, slots, ordinal, now, slot, status)
+            write_status(domain, book, slots, ordinal, now, slot, status, looks)
         }
         Asked::Operated { .. } | Asked::Tagged { .. } => unreachable!(),
     }
@@ -121,6 +123,7 @@ fn write_wish(
     now: u64,
     slot: u32,
     wish: Result<Wish, WishFault>,
+    looks: &mut Looks,
 ) -> Option<u8>
     requires { slot < length slots.old }
     ensures answer { (table : OwnTable) → table.domain ≡ domain.now → result
@@ -130,7 +133,7 @@ fn write_wish(
         ≡ owner_slots ordinal now slot (taken table (members_in book.now.sets) wish) slots.old }
     ensures many { length slots.new ≡ length slots.old }
 {
-    if slots.owner(slot) != Some(ordinal) {
+    if slots.look(looks, slot).owner() != Some(ordinal) {
         return Some(OBJECT_ACCESS_DENIED);
     }
     match wish {
@@ -140,7 +143,7 @@ fn write_wish(
             if wish.status && !may_begin(domain, book, &wish) {
                 return Some(VALUE_INVALID);
             }
-            slots.write(slot, wish, now);
+            slots.write(looks, slot, wish, now);
             None
         }
     }
@@ -155,6 +158,7 @@ fn write_status(
     now: u64,
     slot: u32,
     status: Option<bool>,
+    looks: &mut Looks,
 ) -> Option<u8>
     requires { slot < length slots.old }
     ensures answer { (table : OwnTable) → table.domain ≡ domain.now → result
@@ -165,16 +169,17 @@ fn write_status(
         (status_wish status (slot_at slots.old slot).state.wish)) slots.old }
     ensures many { length slots.new ≡ length slots.old }
 {
-    if slots.owner(slot) != Some(ordinal) {
+    let own = slots.look(looks, slot);
+    if own.owner() != Some(ordinal) {
         return Some(OBJECT_ACCESS_DENIED);
     }
     let Some(status) = status else {
         return Some(TYPE_INCONSISTENT);
     };
-    if status && !may_begin(domain, book, slots.wish(slot)) {
+    if status && !may_begin(domain, book, own.wish()) {
         return Some(VALUE_INVALID);
     }
-    slots.set_status(slot, status, now);
+    slots.set_status(looks, slot, status, now);
     None
 }
 

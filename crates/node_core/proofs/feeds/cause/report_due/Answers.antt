@@ -1,9 +1,12 @@
-use Rattle.std.proofs.Common.{◌≡◌, ◌<◌, ◌+◌, ◌==◌, not, length, List, sym, subst, ◌∙◌, arith}
+use Rattle.std.proofs.Common.{◌≡◌, ◌<◌, ◌+◌, ◌==◌, not, length, List, set, sym, ap, subst, ◌∙◌}
+use Rattle.std.proofs.Common.{arith}
 use Rattle.bilateral.specs.declared.rows.TheConstants.{SLOT_LIMIT}
 use Rattle.transfer_sets.specs.Banks.{OwnedSlot, slot_at}
 use Rattle.transfer_sets.specs.Due.{conditions_due}
 use Rattle.transfer_sets.specs.DueIndex.{next_at}
 use Rattle.transfer_sets.specs.NextDue.{IsNextMoment}
+use Rattle.node_core.specs.declared.feeds.cause.ReportCause.{ReportCause}
+use Rattle.node_core.specs.Feeds.SlotFeeds.{conditions_by, reported_on}
 use Rattle.node_core.proofs.OfFeeds.SlotFeeds.{none_reported, all_reported, due_from-all, one_ahead}
 use Rattle.node_core.proofs.OfFeeds.SlotFeeds.{none_reported_on}
 use Rattle.node_core.proofs.OfFeeds.SlotFeeds.{IsTicking-due, IsTicking-undue}
@@ -45,10 +48,14 @@ loop-slot-preserved c =
           w.next_due.result c.if-has_come.dues c.if-has_come.looks (come ∙ w.if-has_come.true)
           (λ slot moment. c.due_indexes_turn.ensures.put now n from to slot index
           w.next_due.result there moment t.dues)
-          (w.bank-is ∙ w.report_slot.ensures)
+          (w.bank-is ∙ w.report_slot.ensures.slots
+          ∙ ap (λ (cause : ReportCause). set now n (reported_on (conditions_by cause n state)
+          (slot_at now n))) w.cause.ensures)
           (subst (λ (slots : List OwnedSlot). IsNextMoment (slot_at slots n).state to
-          w.next_due.result) (sym w.bank-is) w.next_due.ensures)
-          (w.dues-is ∙ w.set.ensures) (w.looks-is ∙ w.add.ensures)
+          w.next_due.result) (sym w.bank-is) (subst (λ (slot : OwnedSlot).
+          IsNextMoment slot.state to w.next_due.result) w.look.ensures.slot w.next_due.ensures))
+          (w.dues-is ∙ w.set.ensures)
+          (omega (arith, w.looks-is, w.report_slot.ensures.looks, w.look.ensures.looks))
       | else-has_come w ↦
           rw (w.bank-is, w.dues-is, w.looks-is)
           (IsTicking-undue from to n old now index _ _ t within c.requires.many

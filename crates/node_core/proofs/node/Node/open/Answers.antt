@@ -86,9 +86,9 @@ returns-in-Ok-clause-answer c =
     (opens_next _ _ _ _ c.self.invariant.0 c.args.peer c.next_key-key.result known
     c.next_key-key.ensures))
 
-pub invariant_of-self-in-Err-12 : goal.invariant_of-self-in-Err-12
-invariant_of-self-in-Err-12 c =
-    let none = unseated (goal.at.invariant_of-self-in-Err-12 c).After-open_count in
+pub invariant_of-self-in-Err-13 : goal.invariant_of-self-in-Err-13
+invariant_of-self-in-Err-13 c =
+    let none = unseated (goal.at.invariant_of-self-in-Err-13 c).After-open_count in
     let more = c.in_ok-seat.ensures.count none in
     let less = c.unseat.ensures.count
     (rw (c.in_ok-seat.ensures.ok c.args.who, eq-eqb c.args.who c.args.who refl) refl) in

@@ -10,7 +10,9 @@ returns c =
     let shown = c.args.shown.now in
     let mine : is_owned_by c.args.ordinal (slot_at shown.slots c.args.slot) ≡ true =
     ap (λ (b : List OwnedSlot). is_owned_by c.args.ordinal (slot_at b c.args.slot))
-    (sym c.slots.ensures.value) ∙ sym c.owns.ensures ∙ c.if-not-owns.false in
+    (sym c.slots.ensures.value)
+    ∙ ap (is_owned_by c.args.ordinal) (sym c.look-own.ensures.slot) ∙ sym c.owns.ensures
+    ∙ c.if-not-owns.false in
     on_ok c.add_reports.result (λ each updates tables view s.
     each updates tables view s
     ∙ ap (λ (rs : List ReportKind). c.args.made.now ++ rs)

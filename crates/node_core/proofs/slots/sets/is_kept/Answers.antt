@@ -1,4 +1,5 @@
 use Rattle.std.proofs.Common.{◌≡◌, sym, ap, ◌∙◌}
+use Rattle.transfer_sets.specs.Banks.{OwnedSlot}
 use Rattle.node_core.proofs.OfSlots.Kept.{is_wish_for, is_kept_by, none_more, one_passes, none_pass}
 use Rattle.node_core.proofs.slots.sets.is_kept.Goals as goal
 
@@ -7,7 +8,8 @@ loop-slot-preserved c =
     let domain = c.args.domain.now in
     let set = c.args.set.now in
     let here : c.is_wish_for.result ≡ is_kept_by domain c.args.slots.now set c.loop-slot.slot =
-    c.is_wish_for.ensures ∙ ap (is_wish_for domain set) c.wish.ensures in
+    c.is_wish_for.ensures ∙ ap (is_wish_for domain set)
+    (c.wish.ensures ∙ ap (λ (own : OwnedSlot). own.state.wish) c.look.ensures.slot) in
     none_more (is_kept_by domain c.args.slots.now set) c.args.count c.loop-slot.slot
     c.loop-slot-test.true c.loop-slot.invariant (sym here ∙ c.if-is_wish_for.false)
 
@@ -16,7 +18,8 @@ returns-then-is_wish_for c =
     let domain = c.args.domain.now in
     let set = c.args.set.now in
     let here : c.is_wish_for.result ≡ is_kept_by domain c.args.slots.now set c.loop-slot.slot =
-    c.is_wish_for.ensures ∙ ap (is_wish_for domain set) c.wish.ensures in
+    c.is_wish_for.ensures ∙ ap (is_wish_for domain set)
+    (c.wish.ensures ∙ ap (λ (own : OwnedSlot). own.state.wish) c.look.ensures.slot) in
     sym (one_passes (is_kept_by domain c.args.slots.now set) c.args.count c.loop-slot.slot
     c.loop-slot-test.true (sym here ∙ c.if-is_wish_for.true))
 

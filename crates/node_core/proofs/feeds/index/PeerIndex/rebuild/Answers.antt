@@ -1,6 +1,6 @@
 use Rattle.std.proofs.Common.{◌<◌, ◌∙◌, ℕ, List, Option, length, length-set, sym, ap, subst, arith}
 use Rattle.bilateral.specs.declared.rows.Table.{Table}
-use Rattle.transfer_sets.specs.Banks.{slot_at}
+use Rattle.transfer_sets.specs.Banks.{OwnedSlot, slot_at}
 use Rattle.transfer_sets.specs.NextDue.{IsNextMoment}
 use Rattle.transfer_sets.specs.DueIndex.{next_at}
 use Rattle.node_core.specs.Feeds.Indexed.{HasWatchRoom}
@@ -48,10 +48,13 @@ loop-slot-preserved c =
       dues = λ s below. subst (λ (d : List (Option ℕ)).
           IsNextMoment (slot_at bank s).state c.args.now (next_at d s)) (sym c.set.ensures)
           (dues-more bank slot c.args.now dues c.next_due.result within
-          c.loop-slot.invariant.dues c.next_due.ensures s below);
+          c.loop-slot.invariant.dues (subst (λ (slot : OwnedSlot).
+          IsNextMoment slot.state c.args.now c.next_due.result) c.look-own.ensures.slot
+          c.next_due.ensures) s below);
       watch = watch-more c.args.table.now c.args.book.now bank slot c.loop-slot.self.watch
-          c.watch_slot.new.watch c.wish.result.now c.wish.ensures c.loop-slot.invariant.watch
-          c.watch_slot.ensures;
+          c.watch_slot.new.watch c.wish.result.now
+          (c.wish.ensures ∙ ap (λ (slot : OwnedSlot). slot.state.wish) c.look-own.ensures.slot)
+          c.loop-slot.invariant.watch c.watch_slot.ensures;
       room = λ other room.
           c.watch_slot.ensures.room other (c.loop-slot.invariant.room other room);
     }

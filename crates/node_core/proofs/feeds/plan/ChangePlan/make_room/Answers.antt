@@ -3,7 +3,6 @@ use Rattle.std.proofs.Common.{subst, ◌∙◌}
 use Rattle.std.specs.Global.{Vec}
 use Rattle.std.proofs.lemmas.List.{length-map}
 use Rattle.bilateral.specs.declared.rows.TheConstants.{SLOT_LIMIT}
-use Rattle.transfer_sets.specs.declared.looks.TheConstants.{LOOK_LIMIT}
 use Rattle.transfer_sets.specs.Banks.{slot_at}
 use Rattle.node_core.specs.Feeds.SlotFeeds.{places_at}
 use Rattle.node_core.proofs.OfFeeds.Planned.{planned-read, planned-some, planned-none, is_planned}
@@ -26,9 +25,9 @@ returns-in_err-room-clause-looks c =
     c.as_slice-places.result.now within c.index.ensures c.as_slice-places.ensures.value
     c.self.view_is in
     let many = ap (λ (places : List ℕ). length places == 0) (sym here) ∙ sym c.is_empty.ensures in
-    looked-within (is_planned plan) (slot + 1) c.args.looks.now c.add.new.self
-    (looked-at (is_planned plan) slot c.args.looks.now c.loop-slot.looks c.add.new.self LOOK_LIMIT
-    there (planned-some plan slot (many ∙ c.if-not-is_empty.true)) c.add.ensures
+    looked-within (is_planned plan) (slot + 1) c.args.looks.now c.room.new.looks
+    (looked-at (is_planned plan) slot c.args.looks.now c.loop-slot.looks c.room.new.looks
+    there (planned-some plan slot (many ∙ c.if-not-is_empty.true)) (omega (arith, c.room.ensures.looks))
     c.loop-slot.invariant.looks)
 
 pub loop-slot-preserved : goal.loop-slot-preserved
@@ -53,8 +52,8 @@ loop-slot-preserved c =
         below = room-more plan slot mid so.below w.room.new.self w.room.ensures.more
             (subst (λ (places : List ℕ). length places ≤ (slot_at w.room.new.self slot).spare) here
             w.in_ok-room.ensures.ok);
-        looks = looked-at (is_planned plan) slot old now w.add.new.self LOOK_LIMIT there
-            (planned-some plan slot (many ∙ w.if-not-is_empty.true)) w.add.ensures so.looks;
+        looks = looked-at (is_planned plan) slot old now w.room.new.looks there
+            (planned-some plan slot (many ∙ w.if-not-is_empty.true)) (omega (arith, w.room.ensures.looks)) so.looks;
       })
       | else-not-is_empty w ↦ rw (w.bank-is, w.looks-is) (record {
         more = so.more;

@@ -1,20 +1,20 @@
 use Rattle.std.proofs.Common.{◌≡◌, ◌==◌, ◌<◌, List, [], ℕ, length, arith, sym, ap, subst, ◌∙◌}
 use Rattle.std.specs.Global.{Vec}
 use Rattle.bilateral.specs.declared.rows.TheConstants.{SLOT_LIMIT}
-use Rattle.transfer_sets.specs.declared.looks.TheConstants.{LOOK_LIMIT}
-use Rattle.transfer_sets.specs.Banks.{HasChanged}
+use Rattle.transfer_sets.specs.Banks.{OwnedSlot, HasChanged}
+use Rattle.transfer_sets.specs.NextDue.{IsNextMoment}
 use Rattle.node_core.specs.Feeds.SlotFeeds.{places_at}
 use Rattle.node_core.proofs.OfFeeds.Planned.{change_of, planned-read, noted-passed, noted-changed}
-use Rattle.node_core.proofs.OfFeeds.Planned.{is_planned, planned-some, planned-none, looked-at}
-use Rattle.node_core.proofs.OfFeeds.Planned.{looked-past}
+use Rattle.node_core.proofs.OfFeeds.Planned.{is_planned, planned-some, planned-none}
+use Rattle.node_core.proofs.OfFeeds.Planned.{looked-twice-at, looked-twice-past}
 use Rattle.node_core.proofs.OfFeeds.Planned.{all_noted, wishes_changed}
 use Rattle.node_core.proofs.feeds.plan.ChangePlan.note.Goals as goal
 use Rattle.node_core.proofs.feeds.plan.ChangePlan.note.Goals.{then-not-is_empty, else-not-is_empty}
 
-pub next_due-requires : goal.next_due-requires
-next_due-requires c =
+pub look-requires : goal.look-requires
+look-requires c =
     let there : c.loop-slot.slot < SLOT_LIMIT = omega (arith, c.loop-slot-test.true) in
-    let many = (c.change.ensures []).many in
+    let many = (c.change.ensures.slots []).many in
     omega (arith, there, many, c.loop-slot.invariant.noted.many, c.requires.many)
 
 pub loop-slot-preserved : goal.loop-slot-preserved
@@ -39,22 +39,23 @@ loop-slot-preserved c =
         noted = noted-changed change plan slot old mid w.change.new.self so.noted
             (many ∙ w.if-not-is_empty.true)
             (λ point. subst (λ (places : List ℕ). HasChanged places (change point) slot mid
-            w.change.new.self) here (w.change.ensures point));
+            w.change.new.self) here (w.change.ensures.slots point));
         wishes = wishes_changed _ _ slot old mid w.change.new.self
-            (w.change.ensures []) so.wishes;
+            (w.change.ensures.slots []) so.wishes;
         dues = rw w.set.ensures (c.due_indexes_last.ensures.changed _ _ mid w.change.new.self
-            slot at.now c.loop-slot.dues w.next_due.result (w.change.ensures [])
-            w.next_due.ensures so.dues);
-        looks = looked-at (is_planned plan) slot c.args.looks.now c.loop-slot.looks
-            w.add.new.self LOOK_LIMIT there
-            (planned-some plan slot (many ∙ w.if-not-is_empty.true)) w.add.ensures so.looks;
+            slot at.now c.loop-slot.dues w.next_due.result (w.change.ensures.slots [])
+            (subst (λ (own : OwnedSlot). IsNextMoment own.state at.now w.next_due.result)
+            w.look.ensures.slot w.next_due.ensures) so.dues);
+        looks = looked-twice-at (is_planned plan) slot c.args.looks.now c.loop-slot.looks
+            w.look.new.looks there (planned-some plan slot (many ∙ w.if-not-is_empty.true))
+            (omega (arith, w.change.ensures.looks, w.look.ensures.looks)) so.looks;
       })
       | else-not-is_empty w ↦ rw (w.bank-is, w.dues-is, w.looks-is) (record {
         noted = noted-passed change plan slot c.slots_follow_their_moves.ensures.others old mid
             so.noted (many ∙ w.if-not-is_empty.false);
         wishes = so.wishes;
         dues = so.dues;
-        looks = looked-past (is_planned plan) slot c.args.looks.now c.loop-slot.looks there
+        looks = looked-twice-past (is_planned plan) slot c.args.looks.now c.loop-slot.looks there
             (planned-none plan slot (many ∙ w.if-not-is_empty.false)) so.looks;
       })
     ]

@@ -1,7 +1,7 @@
 use Rattle.std.proofs.Common.{◌≡◌, ℕ}
 use Rattle.transfer_sets.specs.Banks.{slot_at}
 use Rattle.transfer_sets.specs.DueIndex.{IsDueIndex}
-use Rattle.node_core.proofs.OfFeeds.Planned.{change_of, IsNotedTo, IsLookedTo, is_planned}
+use Rattle.node_core.proofs.OfFeeds.Planned.{change_of, IsNotedTo, IsLookedTwiceTo, is_planned}
 use Rattle.node_core.proofs.feeds.plan.ChangePlan.note.Given as goal
 
 abbrev pub invariant-loop-slot : goal.invariant-loop-slot
@@ -10,5 +10,5 @@ invariant-loop-slot l = record {
       l.initial.bank l.bank;
   wishes : (s : ℕ) → (slot_at l.bank s).state.wish ≡ (slot_at l.initial.bank s).state.wish;
   dues : IsDueIndex l.bank l.now l.dues;
-  looks : IsLookedTo (is_planned l.self) l.slot l.initial.looks l.looks;
+  looks : IsLookedTwiceTo (is_planned l.self) l.slot l.initial.looks l.looks;
 }

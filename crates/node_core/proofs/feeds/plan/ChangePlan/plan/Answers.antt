@@ -5,8 +5,7 @@ use Rattle.std.proofs.lemmas.List.{length-map}
 use Rattle.bilateral.specs.declared.rows.TheConstants.{SLOT_LIMIT}
 use Rattle.bilateral.specs.Rows.{point_of}
 use Rattle.transfer_sets.specs.declared.wish.Wish.{Wish}
-use Rattle.transfer_sets.specs.declared.looks.TheConstants.{LOOK_LIMIT}
-use Rattle.transfer_sets.specs.Banks.{slot_at}
+use Rattle.transfer_sets.specs.Banks.{OwnedSlot, slot_at}
 use Rattle.node_core.specs.Objects.Found.{offered}
 use Rattle.node_core.specs.Feeds.SlotFeeds.{places_by, places_planned}
 use Rattle.node_core.proofs.OfFeeds.Planned.{planned-more, all_planned, unwatched-planned}
@@ -38,9 +37,9 @@ loop-slot-preserved c =
         below = planned-more (λ places. places.items) plans slot w.plan_slot.new.places want
             within so.below (w.in_ok-plan_slot.ensures
             ∙ ap (λ (wish : Wish). if wish.status then places_by table book wish name else [])
-            w.wish.ensures);
-        looks = looked-at watcher slot old now w.add.new.self LOOK_LIMIT there
-            (sym seen ∙ w.if-is_watching.true) w.add.ensures so.looks;
+            (w.wish.ensures ∙ ap (λ (own : OwnedSlot). own.state.wish) w.look.ensures.slot));
+        looks = looked-at watcher slot old now w.look.new.looks there
+            (sym seen ∙ w.if-is_watching.true) (omega (arith, w.look.ensures.looks)) so.looks;
       })
       | else-is_watching w ↦ rw (w.self-inside-is, w.looks-is) (record {
         many = length-set plans slot w.clear.new.self ∙ so.many;

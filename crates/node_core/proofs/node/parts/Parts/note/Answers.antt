@@ -1,4 +1,4 @@
-use Rattle.std.proofs.Common.{◌+◌, ◌≤◌, subst, length-set}
+use Rattle.std.proofs.Common.{◌+◌, ◌*◌, ◌≤◌, subst, length-set}
 use Rattle.node_core.specs.declared.feeds.index.PeerIndex.{PeerIndex}
 use Rattle.node_core.specs.declared.node.peer.Peer.{Peer}
 use Rattle.node_core.specs.Feeds.SlotFeeds.{planned_count}
@@ -66,6 +66,6 @@ returns-clause-many c =
 
 pub returns-clause-looks : goal.returns-clause-looks
 returns-clause-looks c = λ part at.
-    subst (λ (x : Peer). c.note.new.looks ≤ c.args.looks.now + planned_count x.plan)
+    subst (λ (x : Peer). c.note.new.looks ≤ c.args.looks.now + 2 * planned_count x.plan)
     (part_is c.args.self.now.peers.items c.args.peer c.index_mut.result.now part
     c.requires.banked.there c.index_mut.ensures.value at) c.note.ensures.looks

@@ -1,8 +1,9 @@
 use Rattle.std.proofs.Common.{◌<◌, ◌∙◌, length, sym, arith}
 use Rattle.node_core.specs.Feeds.SlotFeeds.{planned_count}
+use Rattle.node_core.specs.Feeds.Indexed.{of_part}
 use Rattle.node_core.proofs.OfNode.PartLists.{FirstBecome-step, FirstBecome-all, IsPeerBanked-same}
 use Rattle.node_core.proofs.OfNode.Steps.{part_there}
-use Rattle.node_core.proofs.OfNode.PeerTotals.{sum_more, sum_within}
+use Rattle.node_core.proofs.OfNode.PeerTotals.{over_peers-less, sum_more_twice}
 use Rattle.node_core.proofs.OfNode.PeerTotals.{FirstIndexed-step, FirstIndexed-all}
 use Rattle.node_core.proofs.node.parts.Parts.note_each.Goals as goal
 
@@ -49,7 +50,7 @@ loop-peer-preserved c =
           (λ other apart. c.note.ensures.noted.others other apart)
           c.note.ensures.others c.note.ensures.many c.note.ensures.indexed;
       within = omega (arith, below);
-      looks = sum_more items (λ x. planned_count x.plan)
+      looks = sum_more_twice items (λ x. planned_count x.plan)
           c.args.looks.now c.loop-peer.looks c.note.new.looks peer part.0 part.1
           c.loop-peer.invariant.looks (c.note.ensures.looks part.0
           (c.loop-peer.invariant.noted.left peer (omega arith) ∙ part.1));
@@ -71,7 +72,7 @@ returns-clause-indexed c =
 
 pub returns-clause-looks : goal.returns-clause-looks
 returns-clause-looks c =
-    sum_within c.args.self.now.peers.items (λ x. planned_count x.plan) c.args.looks.now
-    c.loop-peer.looks c.loop-peer.peer
-    c.loop-peer.invariant.within
-    c.loop-peer.invariant.looks
+    let items = c.args.self.now.peers.items in
+    let less = over_peers-less c.loop-peer.peer (length items) (of_part items
+    (λ x. planned_count x.plan)) c.loop-peer.invariant.within in
+    omega (arith, less, c.loop-peer.invariant.looks)

@@ -1,4 +1,4 @@
-use Rattle.std.proofs.Common.{◌+◌, ◌≤◌, length}
+use Rattle.std.proofs.Common.{◌+◌, ◌*◌, ◌≤◌, length}
 use Rattle.node_core.specs.Feeds.SlotFeeds.{planned_count}
 use Rattle.node_core.specs.PartFeeds.{IsNoted}
 use Rattle.node_core.specs.Feeds.Indexed.{over_peers, of_part}
@@ -12,6 +12,6 @@ invariant-loop-peer l = record {
       l.initial.self.peers.items l.self.peers.items;
   indexed : FirstIndexed l.centre l.now l.peer l.initial.self l.self;
   within : l.peer ≤ length l.initial.self.peers.items;
-  looks : l.looks ≤ l.initial.looks + over_peers l.peer (of_part l.initial.self.peers.items
+  looks : l.looks ≤ l.initial.looks + 2 * over_peers l.peer (of_part l.initial.self.peers.items
       (λ part. planned_count part.plan));
 }

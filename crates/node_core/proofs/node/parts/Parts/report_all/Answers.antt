@@ -1,8 +1,9 @@
 use Rattle.std.proofs.Common.{◌<◌, ◌∙◌, length, sym, arith}
 use Rattle.node_core.specs.Feeds.SlotFeeds.{due_count}
+use Rattle.node_core.specs.Feeds.Indexed.{of_part}
 use Rattle.node_core.proofs.OfNode.PartLists.{FirstBecome-step, FirstBecome-all, IsPeerBanked-same}
 use Rattle.node_core.proofs.OfNode.Steps.{part_there}
-use Rattle.node_core.proofs.OfNode.PeerTotals.{sum_more, sum_within}
+use Rattle.node_core.proofs.OfNode.PeerTotals.{over_peers-less, sum_more_thrice}
 use Rattle.node_core.proofs.OfNode.PeerTotals.{FirstIndexed-step, FirstIndexed-all}
 use Rattle.node_core.proofs.node.parts.Parts.report_all.Goals as goal
 
@@ -50,7 +51,7 @@ loop-peer-preserved c =
           (λ other apart. c.report_tick.ensures.reported.others other apart)
           c.report_tick.ensures.others c.report_tick.ensures.many c.report_tick.ensures.indexed;
       within = omega (arith, below);
-      looks = sum_more items (λ x. due_count c.args.advance.from c.args.advance.to x.slots)
+      looks = sum_more_thrice items (λ x. due_count c.args.advance.from c.args.advance.to x.slots)
           c.args.looks.now c.loop-peer.looks c.report_tick.new.looks peer part.0 part.1
           c.loop-peer.invariant.looks (c.report_tick.ensures.looks part.0
           (c.loop-peer.invariant.reported.left peer (omega arith) ∙ part.1));
@@ -72,8 +73,8 @@ returns-clause-indexed c =
 
 pub returns-clause-looks : goal.returns-clause-looks
 returns-clause-looks c =
-    sum_within c.args.self.now.peers.items
-    (λ x. due_count c.args.advance.from c.args.advance.to x.slots) c.args.looks.now
-    c.loop-peer.looks c.loop-peer.peer
-    c.loop-peer.invariant.within
-    c.loop-peer.invariant.looks
+    let items = c.args.self.now.peers.items in
+    let less = over_peers-less c.loop-peer.peer (length items) (of_part items
+    (λ x. due_count c.args.advance.from c.args.advance.to x.slots))
+    c.loop-peer.invariant.within in
+    omega (arith, less, c.loop-peer.invariant.looks)

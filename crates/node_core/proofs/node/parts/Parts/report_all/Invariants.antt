@@ -1,4 +1,4 @@
-use Rattle.std.proofs.Common.{◌+◌, ◌≤◌, length}
+use Rattle.std.proofs.Common.{◌+◌, ◌*◌, ◌≤◌, length}
 use Rattle.node_core.specs.declared.feeds.cause.ReportCause.TheVariants.{Tick}
 use Rattle.node_core.specs.Feeds.SlotFeeds.{due_count}
 use Rattle.node_core.specs.PartFeeds.{IsReported}
@@ -13,6 +13,6 @@ invariant-loop-peer l = record {
       l.initial.self.peers.items l.self.peers.items;
   indexed : FirstIndexed l.centre l.advance.to l.peer l.initial.self l.self;
   within : l.peer ≤ length l.initial.self.peers.items;
-  looks : l.looks ≤ l.initial.looks + over_peers l.peer (of_part l.initial.self.peers.items
+  looks : l.looks ≤ l.initial.looks + 3 * over_peers l.peer (of_part l.initial.self.peers.items
       (λ part. due_count l.advance.from l.advance.to part.slots));
 }

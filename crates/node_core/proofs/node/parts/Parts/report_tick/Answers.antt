@@ -1,4 +1,4 @@
-use Rattle.std.proofs.Common.{◌+◌, ◌≤◌, subst, length-set}
+use Rattle.std.proofs.Common.{◌+◌, ◌*◌, ◌≤◌, subst, length-set}
 use Rattle.node_core.specs.declared.feeds.cause.ReportCause.TheVariants.{Tick}
 use Rattle.node_core.specs.declared.feeds.index.PeerIndex.{PeerIndex}
 use Rattle.node_core.specs.declared.node.peer.Peer.{Peer}
@@ -63,6 +63,6 @@ returns-clause-many c =
 pub returns-clause-looks : goal.returns-clause-looks
 returns-clause-looks c = λ part at.
     subst (λ (x : Peer). c.report_tick.new.looks ≤ c.args.looks.now
-    + due_count c.args.advance.from c.args.advance.to x.slots)
+    + 3 * due_count c.args.advance.from c.args.advance.to x.slots)
     (part_is c.args.self.now.peers.items c.args.peer c.index_mut.result.now part
     c.requires.banked.there c.index_mut.ensures.value at) c.report_tick.ensures.looks

@@ -69,7 +69,7 @@ loop-slot-preserved c =
       | then-has_come+in_ok-draft_slot w ↦
           IsDraftingTick-due _ _ _ _ _ _ _ _ _ _ c.loop-slot.invariant below (within before) _ _
           w.draft_slot.new.self (come before ∙ w.if-has_come.true) w.draft_slot.ensures.same
-          w.in_ok-draft_slot.ensures.ok w.self-is (w.looks-is ∙ w.add.ensures)
+          w.in_ok-draft_slot.ensures.ok w.self-is (w.looks-is ∙ w.draft_slot.ensures.looks)
       | else-has_come w ↦
           IsDraftingTick-undue _ _ _ _ _ _ _ _ _ _ c.loop-slot.invariant below (within before) _ _
           (come before ∙ w.if-has_come.false) w.self-is w.looks-is
@@ -117,7 +117,8 @@ returns-in_err-draft_slot-clause-looks c =
     let to = c.args.advance.to in
     let all = ap (λ (p : Peer). due_count from to p.slots) c.loop-place.invariant.same in
     let few = due-looked from to c.loop-slot.slot c.loop-place.self.slots _ _ (within before)
-    c.loop-slot.invariant.few c.add.new.self (come before ∙ c.if-has_come.true) c.add.ensures in
+    c.loop-slot.invariant.few c.draft_slot.new.looks (come before ∙ c.if-has_come.true)
+    c.draft_slot.ensures.looks in
     omega (arith, few, all)
 
 pub returns-clause-ok : goal.returns-clause-ok

@@ -17,6 +17,13 @@ returns-in-NameList-clause-value c =
     (NameList class c.in-NameList.scope c.in-NameList.after)) plain
     ∙ ap (reply_to tables view c.args.ordinal) call) c.list_reply.ensures.value
 
+pub returns-in-TypeOf-clause-value : goal.returns-in-TypeOf-clause-value
+returns-in-TypeOf-clause-value c =
+    ok_of c.type_reply.result
+    (λ kind each updates tables view s. each updates tables view s c.args.ordinal
+    ∙ ap (reply_to tables view c.args.ordinal) (sym c.in-TypeOf.is ∙ c.kind.ensures.value))
+    c.type_reply.ensures.value
+
 pub returns-in-Define-clause-value : goal.returns-in-Define-clause-value
 returns-in-Define-clause-value c = λ updates tables view s.
     c.definition_reply.ensures.value updates tables view s c.args.ordinal

@@ -22,8 +22,8 @@ use Rattle.node_core.proofs.OfNode.NodeAnswers.{light_enough, free_at, seated_by
 use Rattle.node_core.proofs.OfNode.NodeAnswers.{has_index, lawful_at}
 use Rattle.node_core.proofs.OfNode.NodeSteps.{IsNode-close, peer_there, its_part}
 use Rattle.node_core.proofs.OfNode.Rooms.{line-close}
-use Rattle.node_core.proofs.node.Node.close.Goals as goal
-use Rattle.node_core.proofs.node.Node.close.Goals.{After-close-2}
+use Rattle.node_core.proofs.node.Node.end_association.Goals as goal
+use Rattle.node_core.proofs.node.Node.end_association.Goals.{After-close-2}
 
 pub unwrap-key-requires : goal.unwrap-key-requires
 unwrap-key-requires c =
