@@ -21,3 +21,4 @@ pub mod Worked
 pub mod WorkedStream
 mod WorkedSets
 mod WorkedReports
+mod WorkedTypes

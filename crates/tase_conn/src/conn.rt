@@ -53,12 +53,13 @@ pub struct Conn {
 impl Model for Conn {
     ghost use Rattle.std.specs.Coded.{codes};
     ghost use Rattle.mms_data.specs.contracts.data.MmsData as datum;
+    ghost use Rattle.mms_data.specs.contracts.types.tree.Shape as shape;
     ghost use Rattle.std.specs.Arc.{arc_value};
     ghost use Rattle.tase_conn.specs.Talking.{Talking};
 
     ghost Value = { Talking };
 
-    ghost coded = { Prim.hlevel (codes, datum.the_row.coded) };
+    ghost coded = { Prim.hlevel (codes, datum.the_row.coded, shape.the_row.coded) };
 
     ghost view = { λ c. record {
       rows = arc_value c.centre;

@@ -8,6 +8,7 @@ mod limits;
 mod octet_laws;
 mod replies;
 mod reports;
+mod shapes;
 
 pub use calls::{call_of, invalid_call, request_of};
 pub use laws::{calls_are_requests, replies_are_pdus, reports_are_pdus};

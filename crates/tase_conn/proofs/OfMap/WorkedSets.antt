@@ -62,11 +62,11 @@ use Rattle.ber_values.specs.Grammars.{passed_within, passed_in}
 
 -- ---- what requests ask
 
-abbrev told_by : Result (Taken MmsPdu) BerFault → List Arrival
+abbrev pub told_by : Result (Taken MmsPdu) BerFault → List Arrival
 told_by (Ok t) = heard (heards.Pdu t.value) ∷ []
 told_by (Err f) = []
 
-abbrev turns_by : List (List ℕ) → List Turn
+abbrev pub turns_by : List (List ℕ) → List Turn
 turns_by requests = turns_told (record {
   told = flat_map (λ octets. told_by (pdu.reading 0 octets)) requests;
   broken = None;
@@ -182,19 +182,19 @@ gone_octets =
 -- ---- over a view
 
 -- behind an open and `update BUS1 s2 00 1700000000 0`
-abbrev begun : View
+abbrev pub begun : View
 begun = updated (codes "BUS1")
     (record { body = bodies.State 2; flags = 0; seconds = 1700000000; millis = 0 })
     ∷ own 0 opens ∷ []
 
 -- behind the calls of these turns
-abbrev behind : View → List Turn → View
+abbrev pub behind : View → List Turn → View
 behind view [] = view
 behind view (asks invoke call ∷ turns) = behind (map (own 0) (acts_of_call call) ++ view) turns
 behind view (turn ∷ turns) = behind view turns
 
 -- an association whose beginning isn't looked at
-abbrev talk : List Turn → Talk
+abbrev pub talk : List Turn → Talk
 talk turns = record {
   opening = [];
   setup = (talk_of (record { told = first_two; broken = None }) false).setup;
@@ -203,7 +203,7 @@ talk turns = record {
 }
 
 -- what is sent behind its beginning to these requests
-abbrev answers : List (List ℕ) → List ℕ
+abbrev pub answers : List (List ℕ) → List ℕ
 answers requests =
     octets_in (own_tables rows 0) 0 (talk (turns_by requests)) (behind begun (turns_by requests))
 

@@ -38,6 +38,7 @@ call_of_request (requests.NameList r) = calls.NameList r.class r.scope r.after
 call_of_request requests.Identify = calls.Identify
 call_of_request (requests.Read r) = read_call_of r.echo r.spec
 call_of_request (requests.Write r) = write_call_of r.values r.spec
+call_of_request (requests.TypeOf r) = calls.TypeOf r.name
 call_of_request (requests.Define r) = calls.Define r.set r.members
 call_of_request (requests.MembersOf r) = calls.MembersOf r.set
 call_of_request (requests.Delete r) = delete_asked r.scope r.sets
@@ -57,6 +58,7 @@ request_in (calls.ReadSet set echo) =
     requests.Read (record { echo = echo; spec = specs.Set set })
 request_in (calls.WriteSet set values) =
     requests.Write (record { spec = specs.Set set; values = values })
+request_in (calls.TypeOf name) = requests.TypeOf (record { name = name })
 request_in (calls.Define set members) = requests.Define (record { set = set; members = members })
 request_in (calls.MembersOf set) = requests.MembersOf (record { set = set })
 request_in (calls.Delete sets) = requests.Delete (record { scope = pos 0; sets = sets })

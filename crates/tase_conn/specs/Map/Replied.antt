@@ -30,6 +30,8 @@ pdu_of_reply invoke (replies.Written results) =
     pdus.Response invoke (responses.Write (record { results = results }))
 pdu_of_reply invoke (replies.NamesAre names more) =
     pdus.Response invoke (responses.NameList (record { names = names; more = more }))
+pdu_of_reply invoke (replies.TypeIs shape) =
+    pdus.Response invoke (responses.TypeIs (record { shape = shape }))
 pdu_of_reply invoke replies.Defined = pdus.Response invoke responses.Define
 pdu_of_reply invoke (replies.MembersAre names) =
     pdus.Response invoke (responses.MembersOf (record { members = names }))
@@ -53,6 +55,7 @@ reply_in_response (responses.NameList r) = Some (replies.NamesAre r.names r.more
 reply_in_response responses.Identify = Some replies.Identified
 reply_in_response (responses.Read r) = results_reply r.results r.spec
 reply_in_response (responses.Write r) = Some (replies.Written r.results)
+reply_in_response (responses.TypeIs r) = Some (replies.TypeIs r.shape)
 reply_in_response responses.Define = Some replies.Defined
 reply_in_response (responses.MembersOf r) = Some (replies.MembersAre r.members)
 reply_in_response (responses.Delete r) = Some (replies.Deleted r.matched r.deleted)

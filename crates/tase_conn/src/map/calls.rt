@@ -13,7 +13,7 @@ use crate::map::copies::{data_of, values_of};
 use ber_values::Visible;
 use mms_data::{Name, Names, Scope};
 use mms_services::Request;
-use mms_services::access::{ReadRequest, Spec, WriteRequest};
+use mms_services::access::{ReadRequest, Spec, TypeRequest, WriteRequest};
 use mms_services::names::{DefineRequest, DeleteRequest, MembersRequest, NameListRequest};
 use std::alloc::{AllocError, Global};
 use tase_views::{Call, CallKind, Values};
@@ -45,6 +45,7 @@ fn kind_of(alloc: Global, request: &Request) -> Result<CallKind, AllocError>
         Request::Identify => Ok(CallKind::Identify),
         Request::Read(asked) => read_of(asked),
         Request::Write(asked) => write_of(alloc, asked),
+        Request::TypeOf(asked) => type_of(asked),
         Request::Define(asked) => define_of(asked),
         Request::MembersOf(asked) => members_of(asked),
         Request::Delete(asked) => delete_of(asked.scope, &asked.sets),
@@ -109,6 +110,14 @@ fn write_of(alloc: Global, asked: &WriteRequest) -> Result<CallKind, AllocError>
     }
 }
 
+fn type_of(asked: &TypeRequest) -> Result<CallKind, AllocError>
+    ensures { IfOk result (λ kind. kind ≡ call_of_request (requests.TypeOf asked.now)) }
+{
+    Ok(CallKind::TypeOf {
+        name: asked.name.clone()?,
+    })
+}
+
 fn define_of(asked: &DefineRequest) -> Result<CallKind, AllocError>
     ensures { IfOk result (λ kind. kind ≡ call_of_request (requests.Define asked.now)) }
 {
@@ -163,6 +172,7 @@ pub fn request_of(alloc: Global, call: &Call) -> Result<Request, AllocError>
             scope,
             after,
         } => name_list_request(*class, scope, after),
+        CallKind::TypeOf { name } => type_request(name),
         CallKind::Define { set, members } => define_request(set, members),
         CallKind::MembersOf { set } => members_request(set),
         CallKind::Delete { sets } => delete_request(sets),
@@ -199,6 +209,14 @@ fn write_set_request(alloc: Global, set: &Name, values: &Values) -> Result<Reque
     let spec = Spec::Set(set.clone()?);
     let values = data_of(alloc, values.as_slice())?;
     Ok(Request::Write(WriteRequest { spec, values }))
+}
+
+fn type_request(name: &Name) -> Result<Request, AllocError>
+    ensures { IfOk result (λ request. request ≡ request_in (calls.TypeOf name.now)) }
+{
+    Ok(Request::TypeOf(TypeRequest {
+        name: name.clone()?,
+    }))
 }
 
 fn define_request(set: &Name, members: &Names) -> Result<Request, AllocError>

@@ -7,8 +7,10 @@ ghost use Rattle.tase_conn.specs.Map.Replied.{pdu_of_reply, spec_in, reply_in, r
 ghost use Rattle.tase_conn.specs.Map.Replied.{results_reply};
 
 use crate::map::copies::{outcomes_of, written_of};
+use crate::map::shapes::shape_of;
+use mms_data::types::Shape;
 use mms_data::{Name, Names, Outcome};
-use mms_services::access::{ReadResponse, Spec, WriteResponse};
+use mms_services::access::{ReadResponse, Spec, TypeResponse, WriteResponse};
 use mms_services::names::{DeleteResponse, MembersResponse, NameListResponse};
 use mms_services::{ErrorPdu, MmsPdu, RejectPdu, Response};
 use std::alloc::{AllocError, Global};
@@ -25,6 +27,7 @@ pub fn pdu_of(alloc: Global, invoke: u32, reply: &Reply) -> Result<MmsPdu, Alloc
         ReplyKind::Results { spec, results } => results_pdu(alloc, invoke, spec, results),
         ReplyKind::Written(results) => written_pdu(alloc, invoke, results),
         ReplyKind::NamesAre { names, more } => names_pdu(invoke, names, *more),
+        ReplyKind::TypeIs(shape) => type_pdu(alloc, invoke, shape),
         ReplyKind::Defined => Ok(defined(invoke)),
         ReplyKind::MembersAre(names) => members_pdu(invoke, names),
         ReplyKind::Deleted { matched, deleted } => Ok(deleted_pdu(invoke, *matched, *deleted)),
@@ -93,6 +96,18 @@ fn names_pdu(invoke: u32, names: &ObjectNames, more: bool) -> Result<MmsPdu, All
     Ok(MmsPdu::Response {
         invoke,
         response: Response::NameList(response),
+    })
+}
+
+fn type_pdu(alloc: Global, invoke: u32, shape: &Shape) -> Result<MmsPdu, AllocError>
+    ensures { IfOk result (λ pdu. pdu ≡ pdu_of_reply invoke (replies.TypeIs shape.now)) }
+{
+    let response = TypeResponse {
+        shape: shape_of(alloc, shape)?,
+    };
+    Ok(MmsPdu::Response {
+        invoke,
+        response: Response::TypeIs(response),
     })
 }
 
@@ -190,6 +205,7 @@ fn kind_of_response(alloc: Global, response: &Response) -> Result<Option<ReplyKi
         Response::Identify => Ok(Some(ReplyKind::Identified)),
         Response::Read(answer) => Ok(Some(results_of(alloc, answer)?)),
         Response::Write(answer) => Ok(Some(written_kind(alloc, answer)?)),
+        Response::TypeIs(answer) => Ok(Some(type_of(alloc, answer)?)),
         Response::Define => Ok(Some(ReplyKind::Defined)),
         Response::MembersOf(answer) => Ok(Some(members_of(answer)?)),
         Response::Delete(answer) => Ok(Some(ReplyKind::Deleted {
@@ -213,6 +229,12 @@ fn written_kind(alloc: Global, answer: &WriteResponse) -> Result<ReplyKind, Allo
 {
     let results = written_of(alloc, answer.results.as_slice())?;
     Ok(ReplyKind::Written(results))
+}
+
+fn type_of(alloc: Global, answer: &TypeResponse) -> Result<ReplyKind, AllocError>
+    ensures { IfOk result (λ kind. kind ≡ replies.TypeIs answer.now.shape) }
+{
+    Ok(ReplyKind::TypeIs(shape_of(alloc, &answer.shape)?))
 }
 
 fn members_of(answer: &MembersResponse) -> Result<ReplyKind, AllocError>
