@@ -13,6 +13,7 @@ ghost use Rattle.conn_service.specs.Attending.{IsServed, IsAsking, IsParting, At
 ghost use Rattle.conn_service.specs.Attending.{IsWanted, AnswersEvent, ClosesLeft, AsksClose};
 ghost use Rattle.conn_service.specs.Attending.{IsAskingClose, GoesOrCloses};
 
+use look_count::no_looks;
 use node_core::Node;
 use std::alloc::Global;
 use tase_conn::{Conn, ConnEnd};
@@ -81,7 +82,8 @@ fn answer(alloc: Global, node: &mut Node, who: u64, conn: &mut Conn, event: Even
         result (reverse node.new.history) conn.new }
     ensures setup { node.new.setup ≡ node.old.setup }
 {
-    match node.step(alloc, who, event) {
+    let mut looks = no_looks();
+    match node.step(alloc, who, event, &mut looks) {
         Ok(answer) => match conn.tell(Ok(answer)) {
             Ok(()) => goes_on(alloc, node, who, conn),
             Err(_) => {
@@ -158,7 +160,8 @@ fn take_close(alloc: Global, node: &mut Node, who: u64, conn: &mut Conn, event: 
         said first (reverse node.new.history) conn.new }
     ensures setup { node.new.setup ≡ node.old.setup }
 {
-    match node.step(alloc, who, event) {
+    let mut looks = no_looks();
+    match node.step(alloc, who, event, &mut looks) {
         Ok(answer) => {
             // It takes no memory.
             let _told = conn.tell(Ok(answer));

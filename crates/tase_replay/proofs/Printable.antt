@@ -18,6 +18,10 @@ use Rattle.mms_data.specs.declared.outcome.Outcome.TheVariants.{Good, Fail}
 use Rattle.mms_data.specs.Datum.{Datum, boolean, integer, unsigned, bits, real, octets, text}
 use Rattle.mms_data.specs.Datum.{structure, array, Data, no_data, datum}
 use Rattle.mms_data.specs.ObjectName.{ObjectName}
+use Rattle.mms_data.specs.Types.TypeShape.{TypeShape, bool_shape, bits_shape, int_shape}
+use Rattle.mms_data.specs.Types.TypeShape.{uint_shape, real_shape, text_shape, structure_shape}
+use Rattle.mms_data.specs.Types.TypeShape.{TypeShapes, no_shapes, shapes}
+use Rattle.mms_data.specs.Types.ShapeTexts.{shape_text, components_text, further_components}
 use Rattle.mms_data.specs.Text.Texts.{data_text, members_text, further_text, outcome_text, scope_text}
 use Rattle.ber_values.specs.declared.fault.Why.{Why}
 use Rattle.ber_values.specs.declared.fault.Why.TheVariants as whys
@@ -28,8 +32,9 @@ use Rattle.conn_service.specs.TaseConn.declared.stage.ConnEnd.{ConnEnd}
 use Rattle.conn_service.specs.TaseConn.declared.stage.ConnEnd.TheVariants as conn_ends
 use Rattle.tase_views.specs.declared.reply.ReplyKind.{ReplyKind}
 use Rattle.tase_views.specs.declared.reply.ReplyKind.TheVariants.{Identified, Results, Written}
-use Rattle.tase_views.specs.declared.reply.ReplyKind.TheVariants.{NamesAre, Defined, MembersAre}
-use Rattle.tase_views.specs.declared.reply.ReplyKind.TheVariants.{Deleted, Error, Reject}
+use Rattle.tase_views.specs.declared.reply.ReplyKind.TheVariants.{NamesAre, TypeIs, Defined}
+use Rattle.tase_views.specs.declared.reply.ReplyKind.TheVariants.{MembersAre, Deleted, Error}
+use Rattle.tase_views.specs.declared.reply.ReplyKind.TheVariants.{Reject}
 use Rattle.tase_views.specs.declared.reply.ReportKind.{ReportKind}
 use Rattle.tase_views.specs.declared.reply.ReportKind.TheVariants.{Set, Variables}
 use Rattle.tase_views.specs.EventTexts.{read_verb, next_name}
@@ -160,6 +165,33 @@ name-printable : (name : ObjectName) → IsPrintable (next_name name)
 name-printable name = printable-cons refl
     (printable-append (scope-printable name.scope) (escaped-printable name.item))
 
+-- ---- types
+
+mutual
+  shape-printable : (s : TypeShape) → IsPrintable (shape_text s)
+  shape-printable bool_shape = of_words _ refl
+  shape-printable (bits_shape n) =
+      printable-append (of_words (codes "bits") refl) (decimal-printable n)
+  shape-printable (int_shape n) =
+      printable-append (of_words (codes "int") refl) (decimal-printable n)
+  shape-printable (uint_shape n) =
+      printable-append (of_words (codes "uint") refl) (decimal-printable n)
+  shape-printable real_shape = of_words _ refl
+  shape-printable (text_shape n) =
+      printable-append (of_words (codes "text") refl) (decimal-printable n)
+  shape-printable (structure_shape ss) =
+      printable-append (printable-cons refl (components-printable ss)) (of_words _ refl)
+
+  components-printable : (ss : TypeShapes) → IsPrintable (components_text ss)
+  components-printable no_shapes = printable-nil
+  components-printable (shapes s ss) =
+      printable-append (shape-printable s) (further_components-printable ss)
+
+  further_components-printable : (ss : TypeShapes) → IsPrintable (further_components ss)
+  further_components-printable no_shapes = printable-nil
+  further_components-printable (shapes s ss) =
+      printable-append (printable-cons refl (shape-printable s)) (further_components-printable ss)
+
 -- ---- replies
 
 written-printable : (result : Option ℕ) → IsPrintable (written_text result)
@@ -190,6 +222,8 @@ reply-printable (Written results) = printable-append (of_words (codes "write") r
 reply-printable (NamesAre names more) = printable-append
     (printable-append (of_words (codes "names ") refl) (more-printable more))
     (printable-all item_text (λ name. printable-cons refl (escaped-printable name)) _)
+reply-printable (TypeIs shape) =
+    printable-append (of_words (codes "type ") refl) (shape-printable shape)
 reply-printable Defined = of_words _ refl
 reply-printable (MembersAre names) = printable-append (of_words (codes "members") refl)
     (printable-all next_name name-printable _)

@@ -16,6 +16,7 @@ use crate::printing::{print_orders, print_reply, print_reports, print_sent};
 use bilateral::Centre;
 use conn_service::connection::{Conn, ConnEnd};
 use conn_service::node::Node;
+use look_count::no_looks;
 use outside::Sink;
 use plain_text::{is_skipped, next_line};
 use std::alloc::Global;
@@ -144,7 +145,8 @@ impl<'a, K: Sink> Player<'a, K> {
         ensures same { IsSamePlayer self.old self.new }
     {
         let Entry { who, event } = entry;
-        match self.node.step(self.alloc, who, event) {
+        let mut looks = no_looks();
+        match self.node.step(self.alloc, who, event, &mut looks) {
             Ok(answer) => { print_answer(self.node.centre(), who, &answer, self.sink, self.text) }
             Err(fault) => refused(fault, number),
         }

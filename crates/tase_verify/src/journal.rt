@@ -10,6 +10,7 @@ ghost use Rattle.tase_verify.specs.Reading.{IsTaken, past_of, TakesLine, TakesLi
 use crate::association::AnsweredEvent;
 use crate::watch::Watch;
 use bilateral::Centre;
+use look_count::no_looks;
 use node_core::Node;
 use plain_text::next_line;
 use sbo_device::Key;
@@ -112,7 +113,8 @@ fn answer_of(
 ) -> Result<Option<Answer>, AllocError>
     ensures { IfOk result (IsTaken node.old node.new who event) }
 {
-    match node.step(alloc, who, event) {
+    let mut looks = no_looks();
+    match node.step(alloc, who, event, &mut looks) {
         Ok(answer) => Ok(Some(answer)),
         Err(StepFault::Memory) => Err(AllocError),
         Err(_) => Ok(None),

@@ -4,6 +4,7 @@ ghost use Rattle.share_turn.specs.Public.{IsOf};
 ghost use Rattle.node_server.specs.Turn.Logged.{turn_setup};
 
 use bilateral::Centre;
+use look_count::no_looks;
 use node_core::Node;
 use share_turn::{Object, Seat, Shared};
 use std::alloc::{AllocError, Global};
@@ -40,7 +41,8 @@ impl Object for TurnNode {
     ghost right = { IsRightTurn };
 
     fn step(&mut self, alloc: Global, who: u64, event: Event) -> Result<Answer, StepFault> {
-        self.node.step(alloc, who, event)
+        let mut looks = no_looks();
+        self.node.step(alloc, who, event, &mut looks)
     }
 }
 
