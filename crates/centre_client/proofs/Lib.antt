@@ -17,3 +17,4 @@ pub mod Turned
 mod Worked
 mod WorkedClients
 pub mod OfService
+mod FrontLines

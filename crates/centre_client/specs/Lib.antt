@@ -9,3 +9,4 @@ pub mod Callers
 pub mod Guards
 pub mod Checkbacks
 pub mod Service
+pub mod Fronts

@@ -1,6 +1,6 @@
 //! A client: the calling end of an association over a centre's tables.
 ghost use Rattle.std.specs.Prelude.{◌≡◌, ℕ, ◌≤◌, List, [], ◌++◌, length, Some, Ok, Err};
-ghost use Rattle.std.specs.Prelude.{IfOk, OnOk, OnErr, MatchResult, unwrap_or};
+ghost use Rattle.std.specs.Prelude.{IfOk, OnOk, OnErr, IsErr, MatchResult, unwrap_or};
 ghost use Rattle.std.specs.Arc.{arc_value};
 ghost use Rattle.tpkt_cotp.specs.declared.limits.TheConstants.{PIECE_LIMIT};
 ghost use Rattle.centre_client.specs.declared.script.Script.{Script as AnyScript};
@@ -8,6 +8,7 @@ ghost use Rattle.centre_client.specs.declared.end.ClientEnd.{ClientEnd as AnyEnd
 ghost use Rattle.centre_client.specs.declared.end.ClientEnd.TheVariants as ends;
 ghost use Rattle.centre_client.specs.declared.fault.ScriptFault.{ScriptFault as Fault};
 ghost use Rattle.centre_client.specs.Scripts.{IsScript, HasScriptFault};
+ghost use Rattle.centre_client.specs.Fronts.{HasGoodFront};
 ghost use Rattle.centre_client.specs.Plays.{line_done};
 ghost use Rattle.centre_client.specs.Clients.{client_of};
 ghost use Rattle.centre_client.specs.Callers.{ClientStands, IsCalling, TakesPiece};
@@ -47,7 +48,8 @@ impl Model for Client {
 impl Client {
     /// A client of a centre's tables that is to play the script with this text. It appends what it
     /// says before anything has come. Where the text is no script, whose first bad line it answers,
-    /// or memory is short, `out` is as before.
+    /// or memory is short, `out` is as before. A bad line in front of the first call is answered
+    /// whether memory is left or not.
     pub fn new(
         alloc: Global,
         centre: &Arc<Centre>,
@@ -64,6 +66,7 @@ impl Client {
             → IfOk result (λ read. read ≡ Err fault) }
         ensures same { IfOk result (λ read. OnErr read (out.new.items ≡ out.old.items)) }
         ensures err { OnErr result (out.new.items ≡ out.old.items) }
+        ensures memory { IsErr result → HasGoodFront (arc_value centre.now) script.now }
     {
         let tables: &Centre = centre;
         match read_script(alloc, tables, script)? {

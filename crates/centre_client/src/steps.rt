@@ -1,11 +1,13 @@
 //! The lines of a script, read.
-ghost use Rattle.std.specs.Prelude.{◌≡◌, ◌<◌, ◌≤◌, false, Ok, IfOk, OnOk, IfSome, length};
+ghost use Rattle.std.specs.Prelude.{◌≡◌, ◌<◌, ◌≤◌, true, false, Ok, IfOk, OnOk, IsErr, IfSome};
+ghost use Rattle.std.specs.Prelude.{length};
 ghost use Rattle.std.specs.List.{list_any};
 ghost use Rattle.plain_text.specs.Words.{words};
 ghost use Rattle.texts.specs.Journal.CallIn.{call_in};
 ghost use Rattle.tase_conn.specs.Map.Asked.{is_odd};
 ghost use Rattle.bilateral.specs.Words.Devices.{short_in};
 ghost use Rattle.centre_client.specs.declared.script.StepKind.TheVariants as kinds;
+ghost use Rattle.centre_client.specs.Fronts.{is_call};
 ghost use Rattle.centre_client.specs.StepLines as own;
 
 use crate::fault::ScriptWhy;
@@ -55,7 +57,7 @@ pub(crate) fn read_peer(centre: &Centre, line: &[u8]) -> Result<u32, ScriptWhy>
     }
 }
 
-/// The step of a peer's script that a line is.
+/// The step of a peer's script that a line is. It takes memory for a call alone.
 pub(crate) fn read_step(
     alloc: Global,
     centre: &Centre,
@@ -63,7 +65,8 @@ pub(crate) fn read_step(
     line: &[u8],
 ) -> Result<Result<StepKind, ScriptWhy>, AllocError>
     requires { peer < length centre.now.tables }
-    ensures { IfOk result (λ read. read ≡ own.step_in centre.now peer line.now) }
+    ensures read { IfOk result (λ read. read ≡ own.step_in centre.now peer line.now) }
+    ensures memory { IsErr result → is_call line.now ≡ true }
 {
     if !is_spaced(line) {
         return Ok(Err(ScriptWhy::Word));
@@ -79,6 +82,16 @@ pub(crate) fn read_step(
         Ok(read_wait(rest))
     } else {
         Ok(Err(ScriptWhy::Word))
+    }
+}
+
+/// Whether a line begins with `call`.
+pub(crate) fn is_call(line: &[u8]) -> bool
+    ensures { result ≡ is_call line.now }
+{
+    match next_word(line) {
+        Some((verb, _)) => verb == b"call".as_slice(),
+        None => false,
     }
 }
 
@@ -99,7 +112,8 @@ fn read_call_step(
     }
 }
 
-/// The step of a call, unless there is a reason against it.
+/// The step of a call, unless there is a reason against it. Memory is wanting only where the length
+/// of its request may be the first.
 fn judge_call(
     alloc: Global,
     centre: &Centre,
@@ -107,8 +121,10 @@ fn judge_call(
     call: Call,
 ) -> Result<Result<StepKind, ScriptWhy>, AllocError>
     requires { peer < length centre.now.tables }
-    ensures { IfOk result (λ read. read
+    ensures read { IfOk result (λ read. read
         ≡ own.unless_why (own.call_why centre.now peer call) (kinds.Call call)) }
+    ensures memory { IsErr result
+        → (is_odd call ≡ false) × (own.writes_guarded centre.now peer call ≡ false) }
 {
     match call_why(alloc, centre, peer, &call)? {
         Some(why) => Ok(Err(why)),
@@ -124,7 +140,9 @@ fn call_why(
     call: &Call,
 ) -> Result<Option<ScriptWhy>, AllocError>
     requires { peer < length centre.now.tables }
-    ensures { IfOk result (λ why. why ≡ own.call_why centre.now peer call.now) }
+    ensures why { IfOk result (λ why. why ≡ own.call_why centre.now peer call.now) }
+    ensures memory { IsErr result
+        → (is_odd call.now ≡ false) × (own.writes_guarded centre.now peer call.now ≡ false) }
 {
     if is_odd(call) {
         Ok(Some(ScriptWhy::Word))

@@ -1,8 +1,9 @@
 //! A client that is about to talk over a link.
-ghost use Rattle.std.specs.Prelude.{◌≡◌, Err, IfOk, MatchResult};
+ghost use Rattle.std.specs.Prelude.{◌≡◌, Err, IfOk, IsErr, MatchResult};
 ghost use Rattle.std.specs.Arc.{arc_value};
 ghost use Rattle.centre_client.specs.declared.fault.ScriptFault.{ScriptFault as Fault};
 ghost use Rattle.centre_client.specs.Scripts.{HasScriptFault};
+ghost use Rattle.centre_client.specs.Fronts.{HasGoodFront};
 ghost use Rattle.centre_client.specs.Service.Talks.{IsTalk};
 
 use crate::{Client, ScriptFault};
@@ -20,7 +21,8 @@ pub struct Talk {
 
 impl Talk {
     /// A client of a centre's tables that is to play the script with this text, before its link is
-    /// there. Where the text is no script, its first bad line.
+    /// there. Where the text is no script, its first bad line, which is told whether memory is left
+    /// or not where it stands in front of the first call.
     pub fn new(
         alloc: Global,
         centre: &Arc<Centre>,
@@ -31,6 +33,7 @@ impl Talk {
             (HasScriptFault (arc_value centre.now) script.now)) }
         ensures fault { (fault : Fault) → HasScriptFault (arc_value centre.now) script.now fault
             → IfOk result (λ read. read ≡ Err fault) }
+        ensures memory { IsErr result → HasGoodFront (arc_value centre.now) script.now }
     {
         let mut out = Vec::new(alloc);
         match Client::new(alloc, centre, script, &mut out)? {

@@ -12,7 +12,7 @@ returns-in-Ok c =
     (λ read. read ≡ call_step c.args.centre.now c.args.peer said))
     (sym (whole.call_in-words (words c.args.text.now) c.in-Ok.call
     (rw c.in-Ok.is at c.in_ok-call.ensures.found)))
-    c.judge_call.ensures
+    c.judge_call.ensures.read
 
 pub returns-in-Err : goal.returns-in-Err
 returns-in-Err c =

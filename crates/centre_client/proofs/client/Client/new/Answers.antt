@@ -3,6 +3,8 @@ use Rattle.bilateral.specs.Rows.{CentreRows}
 use Rattle.centre_client.specs.declared.fault.ScriptFault.{ScriptFault}
 use Rattle.centre_client.specs.declared.script.Script.{Script}
 use Rattle.centre_client.specs.Scripts.{HasScriptFault}
+use Rattle.centre_client.specs.Fronts.{HasGoodFront}
+use Rattle.centre_client.proofs.FrontLines.{script_good}
 use Rattle.centre_client.proofs.client.Client.new.Goals as goal
 
 abbrev fault_or : ScriptFault → Result Script ScriptFault → ScriptFault
@@ -25,3 +27,9 @@ returns-in-Err-clause-fault c = λ fault h.
     (sym c.deref-tables.ensures) h) in
     ap (λ (fault : ScriptFault). Err fault)
     (ap (λ (r : Result Script ScriptFault). fault_or c.in-Err.fault r) e)
+
+pub returns-in_err-client-in-Ok-clause-memory : goal.returns-in_err-client-in-Ok-clause-memory
+returns-in_err-client-in-Ok-clause-memory c = λ lack.
+    subst (λ (rows : CentreRows). HasGoodFront rows c.args.script.now) c.deref-tables.ensures
+    (script_good c.deref-tables.result.now c.args.script.now c.in-Ok.script
+    (rw c.in-Ok.is at c.in_ok-script.ensures.found))
