@@ -1,3 +1,4 @@
 pub mod Generated
+pub mod Rows
 pub mod Tallies
 pub mod Summaries

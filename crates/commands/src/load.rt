@@ -2,12 +2,14 @@
 //! rounds over them, and what is told of a run of both.
 
 mod kept_text;
+mod laws;
 mod scenario;
 mod summary;
 mod tables;
 mod tally;
 
 pub use kept_text::KeptText;
+pub use laws::load_tables_are_read;
 pub use scenario::{MOST_ROUNDS, write_load_scenario};
 pub use summary::spell_summary;
 pub use tables::write_load_tables;

@@ -32,9 +32,14 @@ sight_line m = codes "see P" ++ decimal m ++ codes " domain value" ++ 10 ∷ []
 abbrev pub load_sight : ℕ → ℕ → List ℕ
 load_sight k j = sight_line (seen_point k j)
 
+-- `slots 1`, and the other limits as they are where nothing is said
+abbrev pub load_limits : List ℕ
+load_limits =
+    codes "slots 1" ++ 10 ∷ codes "sets 64" ++ 10 ∷ codes "pending 1048576" ++ 10 ∷ []
+
 -- peer k and its table
 abbrev pub load_peer : ℕ → List ℕ
-load_peer k = peer_head k ++ (codes "slots 1" ++ 10 ∷ []) ++ each_below (load_sight k) SEEN
+load_peer k = peer_head k ++ load_limits ++ each_below (load_sight k) SEEN
 
 abbrev pub load_tables : List ℕ
 load_tables = each_below load_point POINTS ++ each_below load_peer PEERS

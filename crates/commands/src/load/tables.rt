@@ -73,7 +73,7 @@ fn write_peer(alloc: Global, out: &mut Vec<u8>, peer: u64) -> Result<(), AllocEr
 {
     let head = peer_line(alloc, peer)?;
     out.extend_from_slice(head.as_bytes())?;
-    out.extend_from_slice(b"slots 1\n")?;
+    out.extend_from_slice(b"slots 1\nsets 64\npending 1048576\n")?;
     write_sights(alloc, out, peer)
 }
 
