@@ -6,7 +6,7 @@ ghost use Rattle.commands.specs.Io.Plans.{RunsPlan, EndsPlan, octets_of};
 ghost use Rattle.capture_text.specs.Captures.{capture_in};
 ghost use Rattle.tase_tool.specs.Decoding.{pdu_said, pdu_text};
 ghost use Rattle.tase_tool.specs.Decoding as own;
-ghost use Rattle.tase_tool.specs.Lacking.{LacksBehind, LacksCapture};
+ghost use Rattle.tase_tool.specs.Lacking.{LacksText, LacksMessages, LacksCapture};
 ghost use Rattle.tase_tool.specs.Saying.{decode_plan};
 ghost use Rattle.stack_assoc.specs.Listing.Names.{message_name_text, pdu_name, why_name};
 
@@ -39,7 +39,7 @@ fn decode_read<O: Outside>(
     ensures runs { EndsPlan (codes "in") (λ text. pdu_text (octets_of text)) read
         (O.told outside.old) (O.told outside.new) result }
     ensures memory { result ≡ Status.Memory
-        → LacksBehind read (O.told outside.old) (O.told outside.new) }
+        → LacksText LacksMessages read (O.told outside.old) (O.told outside.new) }
 {
     match read {
         Ok(text) => decode_capture(alloc, outside, &text),

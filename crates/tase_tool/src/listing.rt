@@ -8,7 +8,7 @@ ghost use Rattle.tpkt_cotp.specs.declared.limits.TheConstants.{PIECE_LIMIT};
 ghost use Rattle.stack_assoc.specs.Listing.Listings.{listing_of, yet_listed};
 ghost use Rattle.tase_tool.specs.Listing.{stream_said, listing_said, ListsOn};
 ghost use Rattle.tase_tool.specs.Listing as own;
-ghost use Rattle.tase_tool.specs.Lacking.{LacksBehind, LacksCapture};
+ghost use Rattle.tase_tool.specs.Lacking.{LacksText, LacksMessages, LacksCapture};
 ghost use Rattle.tase_tool.specs.Saying.{list_plan};
 
 use crate::captures::refuse_line;
@@ -37,7 +37,7 @@ fn list_read<O: Outside>(alloc: Global, outside: &mut O, read: Result<Vec<u8>, I
         (λ text. says (stream_said (capture_in (octets_of text)))) read
         (O.told outside.old) (O.told outside.new) result }
     ensures memory { result ≡ Status.Memory
-        → LacksBehind read (O.told outside.old) (O.told outside.new) }
+        → LacksText LacksMessages read (O.told outside.old) (O.told outside.new) }
 {
     match read {
         Ok(text) => list_capture(alloc, outside, &text),

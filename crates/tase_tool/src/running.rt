@@ -9,6 +9,7 @@ ghost use Rattle.commands.specs.Words.Words.{AreOptions, IsLimited};
 ghost use Rattle.tase_tool.specs.Saying.{scenario_said, scenario_plan, replay_plan};
 ghost use Rattle.tase_tool.specs.Saying.{played_said, kept_said};
 ghost use Rattle.tase_tool.specs.Running.{RunsTask, RunsTexts, IsWaitLimited, waits_for};
+ghost use Rattle.tase_tool.specs.Lacking.{LacksFor};
 ghost use Rattle.tase_tool.specs.Playing.{EndsPlay};
 ghost use Rattle.tase_tool.specs.Sent.{node_of, played_on, SendsSoFar, SendsOver, SendsBy};
 ghost use Rattle.tase_tool.specs.Kept.{HasPlayed};
@@ -86,6 +87,8 @@ where
         SendsBy (task_in (map string_bytes words.now)) (texts_of told) result
         (taken_of (told.sinks output_name))
         (taken_of ((O.told outside.new).sinks output_name)) }
+    ensures memory { result ≡ Status.Memory → LacksFor (task_in (map string_bytes words.now))
+        (O.told outside.old) (O.told outside.new) }
     ensures left { spawner.new.told.pending ≡ [] }
 {
     match run_texts(alloc, words, outside) {
@@ -139,6 +142,9 @@ pub fn run_texts<'a, O: Outside>(
         SendsBy (task_in (map string_bytes words.now)) (texts_of told) status
         (taken_of (told.sinks output_name))
         (taken_of ((O.told outside.new).sinks output_name))) }
+    ensures memory { IfOk result (λ status. status ≡ Status.Memory
+        → LacksFor (task_in (map string_bytes words.now))
+        (O.told outside.old) (O.told outside.new)) }
     ensures limited { IfErr result IsWaitLimited }
 {
     match read_command(alloc, words) {
@@ -160,6 +166,9 @@ fn run_command<'a, O: Outside>(
         SendsBy (option_map task_of command.entry) (texts_of told) status
         (taken_of (told.sinks output_name))
         (taken_of ((O.told outside.new).sinks output_name))) }
+    ensures memory { IfOk result (λ status. status ≡ Status.Memory
+        → LacksFor (option_map task_of command.entry)
+        (O.told outside.old) (O.told outside.new)) }
     ensures limited { IfErr result IsWaitLimited }
 {
     match command {
@@ -181,6 +190,9 @@ fn run_task<'a, O: Outside>(
         SendsBy (Some (task_of command.entry)) (texts_of told) status
         (taken_of (told.sinks output_name))
         (taken_of ((O.told outside.new).sinks output_name))) }
+    ensures memory { IfOk result (λ status. status ≡ Status.Memory
+        → LacksFor (Some (task_of command.entry))
+        (O.told outside.old) (O.told outside.new)) }
     ensures limited { IfErr result IsWaitLimited }
 {
     match command {

@@ -1,5 +1,5 @@
 //! The command `verify`: what an association was sent, held against its history.
-ghost use Rattle.std.specs.Prelude.{◌≡◌, ◌≢◌, [], ◌∷◌, IfOk, List, ℕ, Err, codes};
+ghost use Rattle.std.specs.Prelude.{◌≡◌, ◌≢◌, IfOk, IsOk, List, ℕ, Err, codes};
 ghost use Rattle.std.specs.Prelude.{Result as AnyResult};
 ghost use Rattle.std.specs.Arc.{arc_value};
 ghost use Rattle.commands.specs.declared.io.input.InputEnd.{InputEnd as AnyEnd};
@@ -13,8 +13,9 @@ ghost use Rattle.tase_verify.specs.JournalIn.{journal_in};
 ghost use Rattle.tase_verify.specs.LinkText.{given_in};
 ghost use Rattle.tase_verify.specs.Verifying.{journal_setup};
 ghost use Rattle.commands.specs.Words.Words.{question_seen};
-ghost use Rattle.tase_tool.specs.Lacking.{LacksInput, LacksLast, LacksCheck};
-ghost use Rattle.tase_tool.specs.Lacking.{LacksBehindTables, LacksBehindJournal, LacksBehindGiven};
+ghost use Rattle.tase_tool.specs.Lacking.{LacksBehind, LacksText, LacksRead, LacksSound};
+ghost use Rattle.tase_tool.specs.Lacking.{LacksNothing, LacksSent, LacksGiven, LacksJournal};
+ghost use Rattle.tase_tool.specs.Lacking.{LacksCheck};
 ghost use Rattle.tase_tool.specs.Verifying.{link_given, AreAnswers, IsMeant};
 ghost use Rattle.tase_tool.specs.Verifying.{judged_text, judged_plan, sent_plan, given_plan};
 ghost use Rattle.tase_tool.specs.Verifying.{journal_plan, verify_plan};
@@ -71,7 +72,8 @@ fn verify_over<O: Outside>(
 ) -> Status
     ensures runs { EndsPlan (codes "tables") (journal_plan (question_seen question.entry)) read
         (O.told outside.old) (O.told outside.new) result }
-    ensures memory { result ≡ Status.Memory → LacksBehindTables (question_seen question.entry)
+    ensures memory { result ≡ Status.Memory
+        → LacksBehind (LacksJournal (question_seen question.entry)) read
         (O.told outside.old) (O.told outside.new) }
 {
     match read {
@@ -95,7 +97,7 @@ fn share_centre<O: Outside>(
 ) -> Status
     ensures runs { RunsPlan (journal_plan (question_seen question.entry) centre)
         (O.told outside.old) (O.told outside.new) result }
-    ensures memory { result ≡ Status.Memory → LacksBehindTables (question_seen question.entry)
+    ensures memory { result ≡ Status.Memory → LacksJournal (question_seen question.entry) centre
         (O.told outside.old) (O.told outside.new) }
 {
     match shared(alloc, centre) {
@@ -124,7 +126,8 @@ fn verify_centre<O: Outside>(
 ) -> Status
     ensures runs { RunsPlan (journal_plan (question_seen question.entry) (arc_value centre.now))
         (O.told outside.old) (O.told outside.new) result }
-    ensures memory { result ≡ Status.Memory → LacksBehindTables (question_seen question.entry)
+    ensures memory { result ≡ Status.Memory
+        → LacksJournal (question_seen question.entry) (arc_value centre.now)
         (O.told outside.old) (O.told outside.new) }
 {
     let tables: &Centre = centre;
@@ -181,7 +184,9 @@ fn verify_answered<O: Outside>(
     ensures runs { (was : AnyResult Past AnyEnd) → AreAnswers centre.now key was read
         → EndsPlan (codes "journal") (given_plan (question_seen question.entry) centre.now key) was
         (O.told outside.old) (O.told outside.new) result }
-    ensures memory { result ≡ Status.Memory → LacksBehindJournal (question_seen question.entry)
+    ensures memory { (was : AnyResult Past AnyEnd) → AreAnswers centre.now key was read
+        → result ≡ Status.Memory
+        → LacksBehind (λ past. LacksGiven (question_seen question.entry)) was
         (O.told outside.old) (O.told outside.new) }
 {
     match read {
@@ -209,16 +214,18 @@ fn verify_meant<O: Outside>(
         → RunsPlan (given_plan (question_seen question.entry) meant.entry.centre.now
         meant.entry.key past)
         (O.told outside.old) (O.told outside.new) result }
-    ensures memory { result ≡ Status.Memory → LacksBehindJournal (question_seen question.entry)
+    ensures memory { result ≡ Status.Memory → LacksGiven (question_seen question.entry)
         (O.told outside.old) (O.told outside.new) }
 {
     let read = read_link(alloc, outside, question.given);
     verify_given(alloc, outside, question, meant, read)
 }
 
-// What a link gave, of a text, or why there is nothing. An operator is told of its first bad line.
+// What a link gave, of a text, or why there is nothing. Its first bad line is found whether memory
+// is left or not, and an operator is told of it.
 fn link_from<O: Outside>(alloc: Global, outside: &O, text: &[u8]) -> Result<LinkText, InputEnd>
-    ensures { IsSpelled (value_as link_given result) (given_in text.now) }
+    ensures value { IsSpelled (value_as link_given result) (given_in text.now) }
+    ensures memory { result ≡ Err InputEnd.Memory → IsOk (given_in text.now) }
 {
     let read = value_or_end(read_link_text(alloc, text));
     note_unread(alloc, outside, "in", text, &read);
@@ -227,7 +234,10 @@ fn link_from<O: Outside>(alloc: Global, outside: &O, text: &[u8]) -> Result<Link
 
 // Reads what a link gave from the file of this name.
 fn read_link<O: Outside>(alloc: Global, outside: &mut O, name: &str) -> Result<LinkText, InputEnd>
-    ensures { ReadsValue given_in name.now TEXT_LIMIT (value_as link_given result)
+    ensures value { ReadsValue given_in name.now TEXT_LIMIT (value_as link_given result)
+        (O.told outside.old) (O.told outside.new) }
+    ensures memory { result ≡ Err InputEnd.Memory
+        → LacksRead (LacksSound given_in) name.now TEXT_LIMIT
         (O.told outside.old) (O.told outside.new) }
 {
     match read_input(alloc, outside, name, TEXT_LIMIT) {
@@ -247,7 +257,8 @@ fn verify_given<O: Outside>(
     ensures runs { (past : Past) → IsMeant meant.entry past → EndsPlan (codes "in")
         (sent_plan (question_seen question.entry) meant.entry.centre.now meant.entry.key past)
         (value_as link_given read) (O.told outside.old) (O.told outside.new) result }
-    ensures memory { result ≡ Status.Memory → LacksBehindGiven (question_seen question.entry)
+    ensures memory { result ≡ Status.Memory
+        → LacksBehind (λ given. LacksSent question.entry.sent.now) (value_as link_given read)
         (O.told outside.old) (O.told outside.new) }
 {
     match read {
@@ -268,7 +279,7 @@ fn verify_link<O: Outside>(
         → RunsPlan (sent_plan (question_seen question.entry) meant.entry.centre.now
         meant.entry.key past (link_given given.now))
         (O.told outside.old) (O.told outside.new) result }
-    ensures memory { result ≡ Status.Memory → LacksBehindGiven (question_seen question.entry)
+    ensures memory { result ≡ Status.Memory → LacksSent question.entry.sent.now
         (O.told outside.old) (O.told outside.new) }
 {
     let Meant {
@@ -290,7 +301,7 @@ fn verify_sent<O: Outside>(
 ) -> Status
     ensures runs { (judged : List ℕ → AnyVerdict) → IfOk account (Judges judged)
         → RunsPlan (judged_plan name.now judged) (O.told outside.old) (O.told outside.new) result }
-    ensures memory { result ≡ Status.Memory → LacksLast [] name.now
+    ensures memory { result ≡ Status.Memory → LacksSent name.now
         (O.told outside.old) (O.told outside.new) }
 {
     match account {
@@ -303,8 +314,8 @@ fn verify_sent<O: Outside>(
 fn judge_file<O: Outside>(alloc: Global, outside: &mut O, name: &str, account: &Account) -> Status
     ensures runs { (judged : List ℕ → AnyVerdict) → Judges judged account.now
         → RunsPlan (judged_plan name.now judged) (O.told outside.old) (O.told outside.new) result }
-    ensures memory { result ≡ Status.Memory
-        → LacksInput name.now (O.told outside.old) (O.told outside.new) }
+    ensures memory { result ≡ Status.Memory → LacksRead LacksNothing name.now TEXT_LIMIT
+        (O.told outside.old) (O.told outside.new) }
 {
     let read = read_input(alloc, outside, name, TEXT_LIMIT);
     judge_read(alloc, outside, account, read)
@@ -321,7 +332,7 @@ fn judge_read<O: Outside>(
         → EndsPlan (codes "out") (λ text. judged_text judged (octets_of text)) read
         (O.told outside.old) (O.told outside.new) result }
     ensures memory { result ≡ Status.Memory
-        → (read ≡ Err InputEnd.Memory) × (O.told outside.new ≡ O.told outside.old) }
+        → LacksText LacksNothing read (O.told outside.old) (O.told outside.new) }
 {
     match read {
         Ok(text) => judge_text(alloc, outside, account, &text),

@@ -10,6 +10,7 @@ use Rattle.bilateral.specs.Rows.{CentreRows}
 use Rattle.centre_client.specs.declared.script.Script.{Script}
 use Rattle.centre_client.specs.declared.fault.ScriptFault.{ScriptFault}
 use Rattle.centre_client.specs.Scripts.{HasScriptFault, SpellsScript}
+use Rattle.centre_client.specs.Fronts.{HasGoodFront}
 use Rattle.centre_client.specs.declared.end.ClientEnd.TheVariants as ends
 use Rattle.centre_client.specs.declared.service.run_end.RunEnd.{RunEnd}
 use Rattle.centre_client.specs.declared.service.run_end.RunEnd.TheVariants as runs
@@ -19,7 +20,7 @@ use Rattle.commands.specs.declared.io.status.Status.{Status}
 use Rattle.commands.specs.declared.io.status.Status.TheVariants as statuses
 use Rattle.commands.specs.declared.io.input.TheConstants.{TEXT_LIMIT}
 use Rattle.commands.specs.declared.io.input.InputEnd.{InputEnd}
-use Rattle.commands.specs.declared.io.input.InputEnd.TheVariants.{Refused}
+use Rattle.commands.specs.declared.io.input.InputEnd.TheVariants.{Refused, Memory}
 use Rattle.commands.specs.declared.io.input.Refusal.TheVariants.{BadLine}
 use Rattle.commands.specs.Io.Inputs.{ReadsInput}
 use Rattle.commands.specs.Io.OutsideUse.{Rises, SomeOf, EachOf, FaultyAt, CleanAt}
@@ -77,12 +78,13 @@ pub record RefusesScript (rows : CentreRows) (text : List ℕ) (before after : O
   pub has : HasScriptFault rows text fault
   pub told : EndsUnread (codes "script") (Refused (BadLine fault.line)) before after status
 
--- what a text that is to be a script comes to; or memory is wanting, and nothing is touched
+-- what a text that is to be a script comes to; or memory is wanting, and nothing is touched: then
+-- no line in front of its first call is bad
 abbrev pub PlaysScript : ClientTask → CentreRows → List ℕ → OutsideTold → OutsideTold → Status
     → Type 0
 PlaysScript task rows text before after status = MeetsNode task rows text before after status
     ⊎ (RefusesScript rows text before after status
-    ⊎ ((status ≡ statuses.Memory) × (after ≡ before)))
+    ⊎ ((status ≡ statuses.Memory) × (after ≡ before) × HasGoodFront rows text))
 
 -- what the command does behind its script, which was read to this
 abbrev pub GoesBehindScript : ClientTask → CentreRows → Result (Vec ℕ Global) InputEnd
@@ -99,6 +101,11 @@ pub record ReadsScript (task : ClientTask) (rows : CentreRows) (before after : O
   pub mid : OutsideTold
   pub reads : ReadsInput before mid task.script TEXT_LIMIT read
   pub goes : GoesBehindScript task rows read mid after status
+
+-- tables that were read to this are shared, or memory is wanting for that
+abbrev pub IsShared : Result CentreRows InputEnd → Result CentreRows InputEnd → Type 0
+IsShared (Ok rows) shared = (shared ≡ Ok rows) ⊎ (shared ≡ Err Memory)
+IsShared (Err end) shared = shared ≡ Err end
 
 -- what the command does behind its tables, which were read to this
 abbrev pub GoesBehindTables : ClientTask → Result CentreRows InputEnd → OutsideTold → OutsideTold

@@ -1,11 +1,13 @@
 //! The command `client`.
 ghost use Rattle.std.specs.Prelude.{List, ℕ, Ok};
 ghost use Rattle.std.specs.Arc.{arc_value};
+ghost use Rattle.commands.specs.Io.Inputs.{value_as};
 ghost use Rattle.bilateral.specs.Rows.{CentreRows};
 ghost use Rattle.centre_client.specs.Service.Talks.{IsTalk};
 ghost use Rattle.commands.specs.Words.Words.{client_seen};
 ghost use Rattle.tase_tool.specs.Client.Playing.{ClientCommand, GoesBehindTables, GoesBehindScript};
 ghost use Rattle.tase_tool.specs.Client.Playing.{PlaysScript, MeetsNode, PlaysOpened};
+ghost use Rattle.tase_tool.specs.Client.Playing.{IsShared};
 
 use crate::client::ending::tell_run_end;
 use crate::client::opening::{close_link, open_both};
@@ -41,8 +43,22 @@ pub fn run_client_command<R: Wait, O: Outside>(
         result }
 {
     let read = read_tables(alloc, outside, words.tables);
+    let shared = share_read(alloc, read);
     let command = ClientRun { rt, alloc, words };
-    command.play_read(outside, read)
+    command.play_read(outside, shared)
+}
+
+/// Shares tables that were read to this.
+fn share_read(alloc: Global, read: Result<Centre, InputEnd>) -> Result<Arc<Centre>, InputEnd>
+    ensures { IsShared read (value_as arc_value result) }
+{
+    match read {
+        Ok(centre) => match Arc::new(alloc, centre) {
+            Ok(shared) => Ok(shared),
+            Err(_) => Err(InputEnd::Memory),
+        },
+        Err(end) => Err(end),
+    }
 }
 
 /// Lets an operator know of the first bad line of a script.
@@ -64,21 +80,21 @@ struct ClientRun<'a, R> {
 }
 
 impl<'a, R: Wait> ClientRun<'a, R> {
-    /// Plays over tables that were read to this.
-    fn play_read<O: Outside>(&self, outside: &mut O, read: Result<Centre, InputEnd>) -> Status
-        ensures { GoesBehindTables (client_seen self.now.words) read (O.told outside.old)
-            (O.told outside.new) result }
+    /// Plays over tables that were read to this, and are shared.
+    fn play_read<O: Outside>(&self, outside: &mut O, read: Result<Arc<Centre>, InputEnd>) -> Status
+        ensures { GoesBehindTables (client_seen self.now.words) (value_as arc_value read)
+            (O.told outside.old) (O.told outside.new) result }
     {
         match read {
-            Ok(centre) => self.read_script(outside, centre),
+            Ok(centre) => self.read_script(outside, &centre),
             Err(end) => end_unread(outside, "tables", end),
         }
     }
 
     /// Reads the script, and plays it.
-    fn read_script<O: Outside>(&self, outside: &mut O, centre: Centre) -> Status
-        ensures { GoesBehindTables (client_seen self.now.words) (Ok centre) (O.told outside.old)
-            (O.told outside.new) result }
+    fn read_script<O: Outside>(&self, outside: &mut O, centre: &Arc<Centre>) -> Status
+        ensures { GoesBehindTables (client_seen self.now.words) (Ok (arc_value centre.now))
+            (O.told outside.old) (O.told outside.new) result }
     {
         let read = read_input(self.alloc, outside, self.words.script, TEXT_LIMIT);
         self.play_script(outside, centre, read)
@@ -88,11 +104,11 @@ impl<'a, R: Wait> ClientRun<'a, R> {
     fn play_script<O: Outside>(
         &self,
         outside: &mut O,
-        centre: Centre,
+        centre: &Arc<Centre>,
         read: Result<Vec<u8>, InputEnd>,
     ) -> Status
-        ensures { GoesBehindScript (client_seen self.now.words) centre read (O.told outside.old)
-            (O.told outside.new) result }
+        ensures { GoesBehindScript (client_seen self.now.words) (arc_value centre.now) read
+            (O.told outside.old) (O.told outside.new) result }
     {
         match read {
             Ok(text) => self.play_text(outside, centre, &text),
@@ -100,19 +116,8 @@ impl<'a, R: Wait> ClientRun<'a, R> {
         }
     }
 
-    /// Plays the script with this text over these tables, which are shared.
-    fn play_text<O: Outside>(&self, outside: &mut O, centre: Centre, text: &[u8]) -> Status
-        ensures { PlaysScript (client_seen self.now.words) centre text.now (O.told outside.old)
-            (O.told outside.new) result }
-    {
-        match Arc::new(self.alloc, centre) {
-            Ok(centre) => self.play_shared(outside, &centre, text),
-            Err(_) => Status::Memory,
-        }
-    }
-
-    /// The same of tables that are shared.
-    fn play_shared<O: Outside>(&self, outside: &mut O, centre: &Arc<Centre>, text: &[u8]) -> Status
+    /// Plays the script with this text over these tables.
+    fn play_text<O: Outside>(&self, outside: &mut O, centre: &Arc<Centre>, text: &[u8]) -> Status
         ensures { PlaysScript (client_seen self.now.words) (arc_value centre.now) text.now
             (O.told outside.old) (O.told outside.new) result }
     {

@@ -1,9 +1,10 @@
 use Rattle.std.proofs.Common.{List, ℕ, codes, sym, subst}
-use Rattle.std.specs.Prelude.{IsOk}
+use Rattle.std.specs.Prelude.{IsOk, Vec}
+use Rattle.std.specs.declared.alloc.Global.{Global}
 use Rattle.commands.specs.Io.Plans.{RunsPlan, EndsPlan, octets_of}
 use Rattle.capture_text.specs.Captures.{capture_in}
 use Rattle.tase_tool.specs.Decoding.{pdu_text}
-use Rattle.tase_tool.specs.Lacking.{LacksBehind}
+use Rattle.tase_tool.specs.Lacking.{LacksText, LacksMessages}
 use Rattle.tase_tool.proofs.Lacking.{lacks_unread}
 use Rattle.tase_tool.proofs.decoding.decode_read.Goals as goal
 
@@ -20,7 +21,7 @@ pub returns-in-Ok-clause-memory : goal.returns-in-Ok-clause-memory
 returns-in-Ok-clause-memory g c =
     let before = g.O.Outside.told c.args.outside.now in
     let after = g.O.Outside.told c.decode_capture.new.outside in
-    λ lack. subst (λ read. LacksBehind read before after) (sym c.in-Ok.is)
+    λ lack. subst (λ read. LacksText LacksMessages read before after) (sym c.in-Ok.is)
     (subst (λ (octets : List ℕ). IsOk (capture_in octets)) c.deref.ensures.value
     (c.decode_capture.ensures.memory lack))
 
@@ -28,6 +29,6 @@ pub returns-in-Err-clause-memory : goal.returns-in-Err-clause-memory
 returns-in-Err-clause-memory g c =
     let before = g.O.Outside.told c.args.outside.now in
     let after = g.O.Outside.told c.end_unread.new.outside in
-    λ lack. subst (λ read. LacksBehind read before after) (sym c.in-Err.is)
-    (lacks_unread (codes "in") c.in-Err.end before after c.end_unread.result c.end_unread.ensures
-    lack)
+    λ lack. subst (λ read. LacksText LacksMessages read before after) (sym c.in-Err.is)
+    (lacks_unread (λ (text : Vec ℕ Global). LacksMessages text.items) (codes "in") c.in-Err.end
+    before after c.end_unread.result c.end_unread.ensures lack)

@@ -15,9 +15,9 @@ returns-clause-runs g c =
 
 pub returns-clause-memory : goal.returns-clause-memory
 returns-clause-memory g c =
-    λ lack. inr (
-      c.read_input-read.result,
-      (g.O.Outside.told c.read_input-read.new.outside),
-      c.read_input-read.ensures,
-      c.list_read.ensures.memory lack,
-    )
+    λ lack. inr (record {
+      read = c.read_input-read.result;
+      mid = g.O.Outside.told c.read_input-read.new.outside;
+      reads = c.read_input-read.ensures;
+      lacks = c.list_read.ensures.memory lack;
+    })

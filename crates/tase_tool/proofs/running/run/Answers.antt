@@ -5,6 +5,8 @@ use Rattle.commands.specs.Words.Words.{task_in}
 use Rattle.outside.specs.Names.Outside.{OutsideTold}
 use Rattle.tase_tool.specs.Running.{RunsTask, waits_for}
 use Rattle.tase_tool.specs.Sent.{SendsBy}
+use Rattle.tase_tool.specs.Lacking.{LacksFor}
+use Rattle.tase_tool.proofs.Lacking.{waits_lack}
 use Rattle.tase_tool.proofs.Sending.{output_of}
 use Rattle.tase_tool.proofs.Tasks.{RunsTask-texts, waits-send}
 use Rattle.tase_tool.proofs.running.run.Goals as goal
@@ -34,3 +36,17 @@ returns-in-Err-clause-sent g c =
     (waits-send c.in-Err.waiting (texts_of (g.O.Outside.told c.args.outside.now))
     c.run_waiting.result (output_of (g.O.Outside.told c.args.outside.now).sinks)
     (output_of (g.O.Outside.told c.run_waiting.new.outside).sinks))
+
+pub returns-in-Ok-clause-memory : goal.returns-in-Ok-clause-memory
+returns-in-Ok-clause-memory g c = c.in-Ok.ensures.memory
+
+pub returns-in-Err-clause-memory : goal.returns-in-Err-clause-memory
+returns-in-Err-clause-memory g c =
+    let before = g.O.Outside.told c.args.outside.now in
+    let after = g.O.Outside.told c.run_waiting.new.outside in
+    λ lack. subst (λ task. LacksFor task before after) (sym c.in-Err.ensures.runs.0)
+    (subst (λ (o : OutsideTold). LacksFor (Some (waits_for c.in-Err.waiting)) o after)
+    c.in-Err.ensures.runs.1
+    (waits_lack c.in-Err.waiting (g.O.Outside.told c.run_texts.new.outside) after
+    c.args.spawner.now.told.faults c.run_waiting.new.spawner.told.faults c.run_waiting.result
+    c.run_waiting.ensures.runs lack))

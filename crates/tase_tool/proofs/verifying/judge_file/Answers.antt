@@ -1,8 +1,5 @@
-use Rattle.std.proofs.Common.{Err, codes, sym, subst}
-use Rattle.outside.specs.Names.Outside.{OutsideTold}
-use Rattle.commands.specs.declared.io.input.InputEnd.TheVariants.{Memory}
+use Rattle.std.proofs.Common.{codes}
 use Rattle.commands.specs.declared.io.input.TheConstants.{TEXT_LIMIT}
-use Rattle.commands.specs.Io.Inputs.{ReadsInput}
 use Rattle.commands.proofs.OfIo.Plans.{IsRun-reads}
 use Rattle.tase_tool.specs.Verifying.{input_asked, judged_text}
 use Rattle.tase_tool.proofs.verifying.judge_file.Goals as goal
@@ -17,13 +14,9 @@ returns-clause-runs g c =
 
 pub returns-clause-memory : goal.returns-clause-memory
 returns-clause-memory g c =
-    let name = c.args.name.now in
-    let before = g.O.Outside.told c.args.outside.now in
-    let mid = g.O.Outside.told c.read_input-read.new.outside in
-    λ lack. (
-      before,
-      subst (λ (o : OutsideTold). ReadsInput before o name TEXT_LIMIT (Err Memory))
-          (sym (c.judge_read.ensures.memory lack).1)
-          (subst (λ read. ReadsInput before mid name TEXT_LIMIT read)
-          (c.judge_read.ensures.memory lack).0 c.read_input-read.ensures),
-    )
+    λ lack. record {
+      read = c.read_input-read.result;
+      mid = g.O.Outside.told c.read_input-read.new.outside;
+      reads = c.read_input-read.ensures;
+      lacks = c.judge_read.ensures.memory lack;
+    }

@@ -1,7 +1,10 @@
-use Rattle.std.proofs.Common.{◌∙◌, Err, List, ℕ, ap, codes, sym, subst}
+use Rattle.std.proofs.Common.{List, ℕ, codes, sym, subst}
+use Rattle.std.specs.Prelude.{Vec}
+use Rattle.std.specs.declared.alloc.Global.{Global}
 use Rattle.commands.specs.Io.Plans.{RunsPlan, EndsPlan, octets_of}
 use Rattle.tase_tool.specs.Verifying.{judged_text}
-use Rattle.tase_tool.proofs.Lacking.{unread_lacks}
+use Rattle.tase_tool.specs.Lacking.{LacksText, LacksNothing}
+use Rattle.tase_tool.proofs.Lacking.{lacks_unread}
 use Rattle.tase_tool.proofs.verifying.judge_read.Goals as goal
 
 pub returns-in-Ok-clause-runs : goal.returns-in-Ok-clause-runs
@@ -26,6 +29,8 @@ returns-in-Err-clause-runs g c =
 
 pub returns-in-Err-clause-memory : goal.returns-in-Err-clause-memory
 returns-in-Err-clause-memory g c =
-    let lacks = unread_lacks (codes "out") c.in-Err.end (g.O.Outside.told c.args.outside.now)
-    (g.O.Outside.told c.end_unread.new.outside) c.end_unread.result c.end_unread.ensures in
-    λ lack. (c.in-Err.is ∙ ap Err (lacks lack).0, (lacks lack).1)
+    let before = g.O.Outside.told c.args.outside.now in
+    let after = g.O.Outside.told c.end_unread.new.outside in
+    λ lack. subst (λ read. LacksText LacksNothing read before after) (sym c.in-Err.is)
+    (lacks_unread (λ (text : Vec ℕ Global). LacksNothing text.items) (codes "out") c.in-Err.end
+    before after c.end_unread.result c.end_unread.ensures lack)

@@ -9,3 +9,6 @@ returns-clause-runs g c =
     λ past is. c.verify_sent.ensures.runs
     (verdict_for rows past c.args.meant.key given.octets.items given.ended)
     (c.verify_association-account.ensures.account (journal_setup rows) past refl is)
+
+pub returns-clause-memory : goal.returns-clause-memory
+returns-clause-memory g c = c.verify_sent.ensures.memory

@@ -1,9 +1,8 @@
-use Rattle.std.proofs.Common.{[], inr, refl, subst}
+use Rattle.std.proofs.Common.{inl, inr, refl, subst}
 use Rattle.std.specs.Prelude.{IfOk}
 use Rattle.commands.proofs.OfIo.Plans.{RunsPlan-idle}
 use Rattle.tase_verify.specs.Association.Verdicts.{Judges}
 use Rattle.tase_tool.specs.Verifying.{judged_plan}
-use Rattle.tase_tool.proofs.Lacking.{lacks_at_once}
 use Rattle.tase_tool.proofs.verifying.verify_sent.Goals as goal
 
 pub returns-in-Ok-clause-runs : goal.returns-in-Ok-clause-runs
@@ -20,6 +19,4 @@ returns-in-Err-clause-runs g c =
     (g.O.Outside.told c.args.outside.now)
 
 pub returns-in-Err-clause-memory : goal.returns-in-Err-clause-memory
-returns-in-Err-clause-memory g c =
-    λ lack. lacks_at_once [] c.args.name.now (g.O.Outside.told c.args.outside.now)
-    (g.O.Outside.told c.args.outside.now) refl
+returns-in-Err-clause-memory g c = λ lack. inl refl
