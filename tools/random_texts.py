@@ -143,7 +143,7 @@ class Scenario:
         name, data = self.name(seat), self.rng.choice(("i1", "i0", "T", "{b2.80,vx%20y}", "[F,u7]"))
         calls = ("identify", f"read {self.names(seat)}", f"read+ {self.names(seat)}",
                  f"write {name}={data}", f"define {self.domain(seat)}/S {self.names(seat)}",
-                 f"readset {self.domain(seat)}/S", f"members {self.domain(seat)}/S",
+                 f"readset {self.domain(seat)}/S", f"members {self.domain(seat)}/S", f"type {name}",
                  f"names 0 {self.domain(seat)}/", "names -9 vmd: A%2fB", "deletescope 5",
                  f"delete {self.domain(seat)}/S", f"writeset {name} {data} {data}")
         return self.add(f"say {seat} {self.rng.choice(calls)}")
