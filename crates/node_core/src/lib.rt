@@ -4,7 +4,7 @@
 pub mod devices;
 mod feeds;
 mod node;
-mod objects;
+pub mod objects;
 mod plant;
 mod replies;
 mod slots;

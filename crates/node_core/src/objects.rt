@@ -5,7 +5,9 @@ mod listing;
 mod naming;
 mod types;
 
-pub(crate) use in_force::InForce;
+pub use in_force::InForce;
+pub use listing::listed_names;
 pub(crate) use listing::{list_names, name_with};
+pub use naming::is_object;
 pub(crate) use naming::{Found, Special, find_object, is_member, is_report_variable, slot_item};
-pub(crate) use types::type_of;
+pub use types::type_of;

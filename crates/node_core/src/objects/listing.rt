@@ -74,6 +74,35 @@ pub fn list_names(
     })
 }
 
+/// The names of the variables that there are for a peer in a scope, all of them, in the order of
+/// octets.
+pub fn listed_names(
+    alloc: Global,
+    table: &InForce<'_>,
+    scope: &Scope,
+) -> Result<ObjectNames, AllocError>
+    ensures value { IfOk result (λ names. names ≡ lists.in_order
+        (lists.variables_in (offered table.now) (objects (offered table.now)) scope.now)) }
+    ensures named { IfOk result (All IsIdentifier) }
+{
+    let _lawful = table.table();
+    let of_devices = device_names(alloc, table)?;
+    let mut names = variables(alloc, table, &of_devices, scope, &None)?;
+    in_order(alloc, names.as_mut_slice())
+}
+
+/// Names in the order of octets.
+fn in_order(alloc: Global, names: &mut [&[u8]]) -> Result<ObjectNames, AllocError>
+    requires { All IsIdentifier (map (λ name. name.now) names.old) }
+    ensures value { IfOk result (λ ordered. ordered
+        ≡ lists.in_order (map (λ name. name.now) names.old)) }
+    ensures named { IfOk result (All IsIdentifier) }
+{
+    names.sort_unstable();
+    let ordered = copies(alloc, names)?;
+    Ok(ordered)
+}
+
 /// Whether a class is this one.
 fn is_class(class: i64, wanted: i64) -> bool
     ensures { result ≡ int_eq class wanted }

@@ -308,6 +308,16 @@ pub fn find_object<'a>(table: &InForce<'a>, name: &Name) -> Option<Found<'a>>
     }
 }
 
+/// Whether a name stands for something by a table.
+pub fn is_object(table: &InForce<'_>, name: &Name) -> bool
+    ensures { result ≡ is_some (object_named (offered table.now) name.now) }
+{
+    match find_object(table, name) {
+        Some(_) => true,
+        None => false,
+    }
+}
+
 /// The row of a table that a name stands for.
 fn find_point<'a>(table: &InForce<'a>, name: &Name) -> Option<&'a See>
     ensures named { option_map (λ see. own_point table.now.rows see.now) result
