@@ -8,6 +8,7 @@ use Rattle.tase_verify.specs.declared.association.answered.AnsweredEvent.{Answer
 use Rattle.tase_verify.specs.declared.association.verdict.Verdict.{Verdict}
 use Rattle.tase_verify.specs.declared.association.verdict.Verdict.TheVariants.{Stray}
 use Rattle.tase_verify.specs.Association.Answered.{answered_in}
+use Rattle.tase_verify.specs.Association.Stray.{events_entered, events_asked, first_stray}
 use Rattle.tase_verify.specs.Association.Verdicts.{verdict_of}
 use Rattle.tase_verify.specs.declared.journal.TheConstants.{JOURNAL_LIMIT}
 use Rattle.tase_verify.specs.JournalIn.{journal_in}
@@ -27,6 +28,13 @@ pub record IsJournal (setup : Setup) (text : List ℕ) (key : Option Key)
   pub past : Past
   pub journal : journal_in setup text ≡ Ok past
   pub events : answered ≡ answered_for setup key past
+
+-- the number of the first stray event of the association that is meant; where none is, the first
+-- event is missing
+abbrev pub stray_for : CentreRows → Past → Option Key → List ℕ → Bool → Option ℕ
+stray_for rows past None octets ended = Some 0
+stray_for rows past (Some key) octets ended =
+    first_stray (events_entered key past) (events_asked rows octets ended)
 
 -- the verdict on the association that is meant; where none is, the first event is missing
 abbrev pub verdict_for : CentreRows → Past → Option Key → List ℕ → Bool → List ℕ → Verdict

@@ -14,7 +14,7 @@ mod terms;
 mod turns;
 mod verdict;
 
-pub use account::Account;
+pub use account::{Account, AccountError};
 pub use answered::AnsweredEvent;
 pub use check::check_association;
 pub use laws::equal_is_exact;

@@ -2,7 +2,6 @@
 use Rattle.std.proofs.Common.{◌≡◌, ℕ, ℤ, Bool, false, List, [], ◌∷◌, ◌++◌, Option, Some, None}
 use Rattle.std.proofs.Common.{refl, sym, ap, subst, ◌∙◌, append_assoc, ◌⊎◌, inl, inr}
 use Rattle.std.specs.Prelude.{is_some, map, drop, Result, Ok, Err, IfOk}
-use Rattle.std.specs.declared.alloc.AllocError.{AllocError}
 use Rattle.std.specs.List.{filter_map, All}
 use Rattle.std.proofs.lemmas.Option.{none-some}
 use Rattle.mms_services.specs.declared.initiate.Initiate.{Initiate}
@@ -30,8 +29,10 @@ use Rattle.tase_verify.specs.declared.association.hearing.Heard.{Heard}
 use Rattle.tase_verify.specs.declared.association.saying.Terms.{Terms}
 use Rattle.tase_verify.specs.declared.association.account.Account.{Account}
 use Rattle.tase_verify.specs.declared.association.account.Account.TheVariants.{Octets, Stray}
+use Rattle.tase_verify.specs.declared.association.account.AccountError.{AccountError}
+use Rattle.tase_verify.specs.declared.association.check.Compared.{Compared}
 use Rattle.tase_verify.specs.declared.association.verdict.Verdict.TheVariants as verdicts
-use Rattle.tase_verify.specs.Association.Accounting.{IsAccount}
+use Rattle.tase_verify.specs.Association.Accounting.{IsAccount, IsCompared}
 use Rattle.tase_verify.specs.Association.Answered.{answered_in}
 use Rattle.tase_verify.specs.Association.Asking.{asked_open, asked_by, asked_in, broken_turns}
 use Rattle.tase_verify.specs.Association.Asking.{turns_of_inputs}
@@ -39,8 +40,8 @@ use Rattle.tase_verify.specs.Association.Hearing.{HasHeard, offered_in}
 use Rattle.tase_verify.specs.Association.Saying.{octets_by_events, talk_kept, kind_of_turn}
 use Rattle.tase_verify.specs.Association.Saying.{turns_of_kinds}
 use Rattle.tase_verify.specs.Association.Spelled.{IsToldSpelled}
-use Rattle.tase_verify.specs.Association.Stray.{events_asked, events_told, stray_from}
-use Rattle.tase_verify.specs.Association.Stray.{first_stray}
+use Rattle.tase_verify.specs.Association.Stray.{events_entered, events_asked, events_told}
+use Rattle.tase_verify.specs.Association.Stray.{stray_from, first_stray}
 use Rattle.tase_verify.specs.Association.Terms.{AreTermsOf}
 use Rattle.tase_verify.specs.Association.Verdicts.{Judges, verdict_by, verdict_between}
 use Rattle.tase_verify.specs.Association.Verdicts.{verdict_of}
@@ -327,36 +328,43 @@ module _ (rows : CentreRows) (answered : List AnsweredEvent) (octets : List ℕ)
       (exact t.offer t.offered t.enough) none)
       ∙ ap (λ (r : CentreRows). verdict_of r past key octets ended sent) same
 
--- by whichever was found
-pub accounted : (rows : CentreRows) (answered : List AnsweredEvent) (octets : List ℕ)
-    (ended : Bool) (heard : Heard) (asked : List EventKind) → HasHeard octets heard
-    → asked ≡ asked_in rows (turns_of_inputs heard.inputs.items heard.broken ended)
-    → All IsEvent asked → All IsToldSpelled answered
-    → (account : Account) → IsAccount heard ended answered asked account
-    → (setup : Setup) (past : Past) (key : Key) → setup.centre ≡ rows
-    → answered ≡ answered_in setup key past
-    → Judges (verdict_of rows past key octets ended) account
-accounted rows answered octets ended heard asked h a spelled told (Stray number) is
-    setup past key same are =
-    λ sent. stray_found rows answered octets ended sent heard asked number h a (sym is)
-    setup past key same are
-accounted rows answered octets ended heard asked h a spelled told (Octets want) is
-    setup past key same are =
-    λ sent. said_found rows answered octets ended sent heard asked is.1.terms want.items h a
-    spelled told (sym is.0) is.1.exact is.1.said setup past key same are
+module _ (rows : CentreRows) (answered : List AnsweredEvent) (octets : List ℕ) (ended : Bool)
+    (compared : Compared) (known : IsCompared rows answered octets ended compared) where
+  -- the first stray event is that of the history
+  pub stray_compared : (setup : Setup) (past : Past) (key : Key) → setup.centre ≡ rows
+      → answered ≡ answered_in setup key past
+      → first_stray (events_entered key past) (events_asked rows octets ended) ≡ compared.stray
+  stray_compared setup past key same are =
+      ap (λ (r : CentreRows). first_stray (events_entered key past) (events_asked r octets ended))
+      (sym same)
+      ∙ ap (λ (es : List EventKind). first_stray es (events_asked setup.centre octets ended))
+      (entered_told setup key past)
+      ∙ ap (λ (es : List EventKind). first_stray (events_told (answered_in setup key past)) es)
+      (asked_events setup.centre octets ended)
+      ∙ stray_given compared.stray answered (answered_in setup key past) known.asked
+      (asked_in setup.centre (turns_given octets ended)) known.first are
+      (asked_given rows setup.centre octets ended compared.heard known.asked known.hears same
+      known.asks)
 
--- the same of an answer that may be want of memory
-pub check_of : (rows : CentreRows) (answered : List AnsweredEvent) (octets : List ℕ)
-    (ended : Bool) (heard : Heard) (asked : List EventKind) → HasHeard octets heard
-    → asked ≡ asked_in rows (turns_of_inputs heard.inputs.items heard.broken ended)
-    → All IsEvent asked → All IsToldSpelled answered
-    → (found : Result Account AllocError) → IfOk found (IsAccount heard ended answered asked)
-    → (setup : Setup) (past : Past) (key : Key) → setup.centre ≡ rows
-    → answered ≡ answered_in setup key past
-    → IfOk found (Judges (verdict_of rows past key octets ended))
-check_of rows answered octets ended heard asked h a spelled told (Ok account) is
-    setup past key same are =
-    accounted rows answered octets ended heard asked h a spelled told account is setup past key
-    same are
-check_of rows answered octets ended heard asked h a spelled told (Err lack) is
-    setup past key same are = tt
+  -- by whichever was found
+  accounted : (account : Account) → IsAccount compared ended answered account
+      → (setup : Setup) (past : Past) (key : Key) → setup.centre ≡ rows
+      → answered ≡ answered_in setup key past
+      → Judges (verdict_of rows past key octets ended) account
+  accounted (Stray number) is setup past key same are =
+      λ sent. stray_found rows answered octets ended sent compared.heard known.asked number
+      known.hears known.asks (sym is ∙ known.first) setup past key same are
+  accounted (Octets want) is setup past key same are =
+      λ sent. said_found rows answered octets ended sent compared.heard known.asked is.1.terms
+      want.items known.hears known.asks known.spelled known.told (sym is.0 ∙ known.first)
+      is.1.exact is.1.said setup past key same are
+
+  -- the same of an answer that may be want of memory
+  pub check_of : (found : Result Account AccountError)
+      → IfOk found (IsAccount compared ended answered)
+      → (setup : Setup) (past : Past) (key : Key) → setup.centre ≡ rows
+      → answered ≡ answered_in setup key past
+      → IfOk found (Judges (verdict_of rows past key octets ended))
+  check_of (Ok account) is setup past key same are =
+      accounted account is setup past key same are
+  check_of (Err lack) is setup past key same are = tt

@@ -15,6 +15,15 @@ pub enum Account {
     Stray { number: u64 },
 }
 
+/// Why it isn't known how the events of an association are accounted for: memory ran out.
+#[derive(Clone, Copy, Debug, PartialEq, Eq)]
+pub enum AccountError {
+    /// Before they were compared with what the link asks.
+    Uncompared,
+    /// Behind that, for the octets that are sent: no event is stray.
+    Unsaid,
+}
+
 impl Account {
     /// The verdict on octets that the association was sent. It takes no memory.
     pub fn judge(&self, sent: Pieces<'_>) -> Verdict

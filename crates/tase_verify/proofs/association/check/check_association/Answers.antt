@@ -1,32 +1,21 @@
-use Rattle.std.proofs.Common.{List, sym, ap, subst, ◌∙◌}
-use Rattle.std.specs.Prelude.{IfOk}
-use Rattle.std.specs.List.{All}
-use Rattle.stack_assoc.specs.declared.input.StackIn.{StackIn}
-use Rattle.tase_views.specs.declared.event.EventKind.{EventKind}
-use Rattle.texts.specs.Journal.Entries.{IsEvent}
-use Rattle.tase_verify.specs.Association.Accounting.{IsAccount}
-use Rattle.tase_verify.specs.Association.Asking.{IsLawfulInput, asked_in, turns_of_inputs}
-use Rattle.tase_verify.proofs.OfAssociation.Checked.{check_of}
-use Rattle.tase_verify.proofs.OfAssociation.LawfulInputs.{inputs_lawful}
+use Rattle.std.proofs.Common.{refl, sym, subst, ◌∙◌}
+use Rattle.std.specs.Prelude.{Result, IsErr}
+use Rattle.tase_verify.specs.declared.association.account.Account.{Account}
+use Rattle.tase_verify.specs.declared.association.account.AccountError.{AccountError}
+use Rattle.tase_verify.proofs.OfAssociation.Checked.{check_of, stray_compared}
 use Rattle.tase_verify.proofs.association.check.check_association.Goals as goal
 
-pub asked_in-requires : goal.asked_in-requires
-asked_in-requires c = record {
-  lawful = subst (λ (handed : List StackIn). All IsLawfulInput handed)
-      (sym c.as_slice.ensures.value)
-      (inputs_lawful c.args.octets.now c.in_ok-heard.heard c.in_ok-heard.ensures);
-}
+pub returns-in-Ok-clause-account : goal.returns-in-Ok-clause-account
+returns-in-Ok-clause-account c =
+    check_of c.args.centre.now c.args.answered.now c.args.octets.now c.args.ended
+    c.in-Ok.compared c.in-Ok.ensures c.account_for.result c.account_for.ensures.account
 
-pub returns : goal.returns
-returns c =
-    let heard = c.in_ok-heard.heard in
-    check_of c.args.centre.now c.args.answered.now c.args.octets.now c.args.ended heard
-    c.in_ok-asked.asked.items c.in_ok-heard.ensures
-    (c.in_ok-asked.ensures ∙ ap (λ (handed : List StackIn).
-    asked_in c.args.centre.now (turns_of_inputs handed heard.broken c.args.ended))
-    c.as_slice.ensures.value)
-    (subst (λ (es : List EventKind). All IsEvent es) c.as_slice-2.ensures.value
-    c.events_are_spelled.ensures) c.answered_are_spelled.ensures c.spell_both.result
-    (subst (λ (es : List EventKind). IfOk c.spell_both.result
-    (IsAccount heard c.args.ended c.args.answered.now es)) c.as_slice-3.ensures.value
-    c.spell_both.ensures)
+pub returns-in-Ok-clause-memory : goal.returns-in-Ok-clause-memory
+returns-in-Ok-clause-memory c = λ setup past key same are lack.
+    stray_compared c.args.centre.now c.args.answered.now c.args.octets.now c.args.ended
+    c.in-Ok.compared c.in-Ok.ensures setup past key same are
+    ∙ c.account_for.ensures.memory
+    (subst (λ (found : Result Account AccountError). IsErr found) (sym lack) refl)
+
+pub returns-in-Err-clause-memory : goal.returns-in-Err-clause-memory
+returns-in-Err-clause-memory c = λ setup past key same are lack. absurd cc
