@@ -1,4 +1,6 @@
 pub mod Behind
+pub mod Alike
+pub mod Since
 pub mod Over
 pub mod Shut
 pub mod Closing

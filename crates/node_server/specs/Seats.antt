@@ -1,2 +1,3 @@
+pub mod Since
 pub mod Serving
 pub mod Peers

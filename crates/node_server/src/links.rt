@@ -8,7 +8,7 @@ mod serving;
 mod telling;
 mod turning;
 
-pub use laws::served_links_are_closed;
+pub use laws::{fresh_seats_serve, served_links_are_closed};
 pub use receiving::{Intake, PIECE, receive};
 pub use sending::{SendsEnd, send_pending};
 pub use serving::serve_connection;

@@ -1,16 +1,11 @@
 -- How the serving of a link begins.
-use Rattle.std.proofs.Common.{◌≡◌, ℕ, ◌==◌, Bool, true, false, List, [], ◌∷◌, ◌++◌, map, cond}
-use Rattle.std.proofs.Common.{Option, Some, None, IfSome, refl, sym, ap, subst, ◌∙◌, inl, inr}
-use Rattle.std.specs.Prelude.{reverse, unwrap_or, if◌then◌else◌}
-use Rattle.std.specs.List.{cons_option}
-use Rattle.std.proofs.lemmas.List.{reverse-append}
-use Rattle.std.proofs.lemmas.List.Elements.{filter_map-append}
+use Rattle.std.proofs.Common.{◌≡◌, ℕ, false, List, [], ◌++◌}
+use Rattle.std.proofs.Common.{Option, Some, None, IfSome, refl, sym, ap, subst, inl, inr}
+use Rattle.std.specs.Prelude.{reverse, unwrap_or}
 use Rattle.outside.specs.Links.LinkAnswers.{LinkAnswers}
 use Rattle.outside.specs.Links.Links.{LinkTold}
 use Rattle.share_turn.specs.Entries.{own}
-use Rattle.share_turn.proofs.Owned.{none_both}
 use Rattle.tase_views.specs.declared.event.EventKind.{EventKind}
-use Rattle.tase_conn.specs.Map.Sent.{events_by, event_by}
 use Rattle.tase_conn.specs.Map.Linked.{link_octets}
 use Rattle.tase_conn.specs.declared.stage.ConnEnd.TheVariants as conn_ends
 use Rattle.tase_conn.specs.declared.stage.PendingEvent.TheVariants as askeds
@@ -22,31 +17,13 @@ use Rattle.conn_service.proofs.OfCourses.Kept.{begun_serves}
 use Rattle.conn_service.proofs.OfCourses.Seats.{none_open}
 use Rattle.conn_service.specs.Sends.{close_of}
 use Rattle.node_server.specs.declared.turn.turn_node.NodeSetup.{NodeSetup}
-use Rattle.node_server.specs.Turn.Logged.{past_in, logged_entry}
+use Rattle.node_server.specs.Turn.Logged.{past_in}
 use Rattle.node_server.specs.NodeCalls.{NodeLog}
+use Rattle.node_server.proofs.OfSeats.Since.{events_none}
 use Rattle.node_server.proofs.OfSeats.Peers.{fresh_peer}
 use Rattle.node_server.specs.Links.ServedLinks.{ServesUpTo}
 use Rattle.node_server.specs.Links.Turns.{IsInTurn}
 use Rattle.node_server.proofs.OfLinks.Uses.{uses_none}
-
--- ---- the seat
-
-one_none : (mine : Bool) (entry : ℕ × EventKind)
-    → map (λ (e : ℕ × EventKind). e.1) (cond mine (entry ∷ []) []) ≡ []
-    → cons_option (if mine then Some entry.1 else None) [] ≡ []
-one_none true entry none = none
-one_none false entry none = refl
-
--- a seat without entries of its own has no events
-pub events_none : (who : ℕ) (log : NodeLog) → own who log ≡ [] → events_by who (past_in log) ≡ []
-events_none who [] none = refl
-events_none who (entry ∷ log) none =
-    let both = none_both who (entry ∷ []) log none in
-    let one = logged_entry entry ∷ [] in
-    ap (λ past. events_by who past) (reverse-append one (map logged_entry log))
-    ∙ filter_map-append (event_by who) (past_in log) one
-    ∙ ap (λ (es : List EventKind). es ++ events_by who one) (events_none who log both.1)
-    ∙ one_none (entry.0 == who) entry both.0
 
 -- ---- the link
 

@@ -1,11 +1,11 @@
 -- A link that was served leaves no association of its seat open: what it gave ends at most once, and
 -- behind all of it the connection has ended.
-use Rattle.std.proofs.Common.{◌≡◌, ℕ, List, [], ◌∷◌, ◌++◌, None, refl, subst}
+use Rattle.std.proofs.Common.{◌≡◌, ℕ, List, [], ◌∷◌, ◌++◌, None, refl, sym, subst, ◌∙◌}
 use Rattle.std.proofs.Common.{⊎_elim, append_assoc}
 use Rattle.bilateral.specs.Rows.{CentreRows}
 use Rattle.outside.specs.Links.LinkAnswers.{Received, piece, idle, ended, failed, LinkAnswer}
 use Rattle.outside.specs.Links.Links.{LinkTold}
-use Rattle.share_turn.specs.Entries.{Each}
+use Rattle.share_turn.specs.Entries.{Each, own}
 use Rattle.tase_views.specs.History.{association_in}
 use Rattle.tase_conn.specs.Map.Inputs.{Item, IsLinkInput}
 use Rattle.tase_conn.specs.Map.Inputs.{piece as piece_item, idle as idle_item, ended as ended_item}
@@ -14,10 +14,14 @@ use Rattle.tase_conn.specs.declared.stage.ConnEnd.TheVariants as conn_ends
 use Rattle.conn_service.proofs.EndedClosed.{ended_closed}
 use Rattle.node_server.specs.declared.turn.turn_node.NodeSetup.{NodeSetup}
 use Rattle.node_server.specs.Turn.Logged.{past_in}
-use Rattle.node_server.specs.NodeCalls.{NodeLog}
+use Rattle.node_server.specs.NodeCalls.{NodeLog, NodeSeat}
+use Rattle.node_server.specs.Seats.Since.{since_here, log_since}
 use Rattle.node_server.specs.Seats.Serving.{shared_setup}
 use Rattle.node_server.specs.Links.GivenItems.{items_given, items_of, MayGoOn}
-use Rattle.node_server.specs.Links.ServedLinks.{CameBehind, HasActedOn, ServesUpTo}
+use Rattle.node_server.specs.Links.ServedLinks.{CameBehind, HasActedOn, ServesUpTo, ServesLink}
+use Rattle.node_server.specs.Links.ServedLinks.{ServesNextLink}
+use Rattle.node_server.proofs.OfSeats.Since.{unused_number, begins_here, since_on, since_alike}
+use Rattle.node_server.proofs.OfSeats.Since.{since_self}
 
 -- ---- what a link gives
 
@@ -93,3 +97,31 @@ left_closed setup who log link used end s =
     (acted_input end (items_of s.given) s.acted s.acted_is
     (given_input setup.centre who s.first.sent log [] s.given tt s.in_turn))
     s.sends
+
+-- so is it over all that was seen, where the seat has served others before
+pub again_closed : (setup : NodeSetup) (seat : NodeSeat) (front : NodeLog) (link later : LinkTold)
+    (end : ConnEnd) → association_in (past_in seat.front) seat.number ≡ None
+    → (s : ServesNextLink setup seat front link later end)
+    → association_in (past_in s.seen) seat.number ≡ None
+again_closed setup seat front link later end closed s =
+    let u = unused_number seat.front in
+    let since = since_here seat u.0 in
+    let is = since_on since seat.front s.seen s.is_front (begins_here seat u.0 closed u.1) in
+    sym ((since_alike since s.seen is).seats seat.number)
+    ∙ left_closed setup seat.number (log_since since s.seen) link s.used end (s.served u.0 u.1)
+
+-- a seat that had done nothing before
+pub fresh_serves : (setup : NodeSetup) (seat : NodeSeat) (front : NodeLog) (link later : LinkTold)
+    (end : ConnEnd) → own seat.number seat.front ≡ []
+    → ServesNextLink setup seat front link later end → ServesLink setup seat front link later end
+fresh_serves setup seat front link later end none s = record {
+  seen = s.seen;
+  is_front = s.is_front;
+  used = s.used;
+  served = subst (λ (log : NodeLog). ServesUpTo setup seat.number log link s.used end)
+      (since_self seat s.seen) (s.served seat.number none);
+  closed = s.closed;
+  stop = s.stop;
+  stops = s.stops;
+  stopped = s.stopped;
+}

@@ -27,7 +27,7 @@ NodeSeat = Sitting EventKind NodeSetup
 
 -- ---- a log as a past
 
-past_joined : (xs ys : SeatLog) → past_in (xs ++ ys) ≡ past_in ys ++ past_in xs
+pub past_joined : (xs ys : SeatLog) → past_in (xs ++ ys) ≡ past_in ys ++ past_in xs
 past_joined xs ys = ap reverse (map-append logged_entry xs ys)
     ∙ reverse-append (map logged_entry xs) (map logged_entry ys)
 
@@ -48,7 +48,7 @@ others_of who (e ∷ rest) none =
     subst (λ (p : Past). AreOthers who p) (sym (past_joined (e ∷ []) rest))
     (others_joined who (past_in rest) (logged_entry e ∷ []) (others_of who rest both.1) (apart, tt))
 
-none_behind : (who : ℕ) (front rest before : SeatLog) → front ++ rest ≡ before
+pub none_behind : (who : ℕ) (front rest before : SeatLog) → front ++ rest ≡ before
     → own who before ≡ own who front → own who rest ≡ []
 none_behind who front rest before is kept =
     append_cancel_left (own who front) (own who rest) []

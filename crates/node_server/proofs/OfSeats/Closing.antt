@@ -1,12 +1,12 @@
 -- The close of a connection that was left, by a call of a seat.
-use Rattle.std.proofs.Common.{ℕ, Bool, List, ◌++◌, is_some, None, Ok, Err}
+use Rattle.std.proofs.Common.{◌≡◌, ℕ, Bool, true, false, List, ◌++◌, is_some, None, Ok, Err}
 use Rattle.std.proofs.Common.{refl, sym, ap, subst, ◌∙◌, Option}
 use Rattle.std.specs.Prelude.{if◌then◌else◌}
 use Rattle.stack_assoc.specs.declared.end_state.EndState.{EndState}
 use Rattle.bilateral.specs.Rows.{CentreRows}
 use Rattle.sbo_device.specs.declared.key.Key.{Key}
 use Rattle.tase_views.specs.Setup.{Setup}
-use Rattle.tase_views.specs.History.{Past}
+use Rattle.tase_views.specs.History.{Past, association_in}
 use Rattle.tase_views.specs.declared.event.EventKind.{EventKind}
 use Rattle.tase_views.specs.declared.event.EventKind.TheVariants as events
 use Rattle.tase_views.specs.declared.fault.StepFault.{StepFault}
@@ -27,7 +27,6 @@ use Rattle.conn_service.proofs.Going.{uncut_on, close_told}
 use Rattle.conn_service.proofs.Told.{close_right}
 use Rattle.node_server.specs.Seats.Serving.{IsShut, ClosesOverAll}
 use Rattle.node_server.proofs.OfSeats.Behind.{CameBehind}
-use Rattle.node_server.proofs.OfSeats.Shut.{none_shut}
 
 -- ---- where none is open
 
@@ -47,15 +46,15 @@ unasked_closes rows who old new wants = λ past whole end standing items said h.
     uncut_over rows past whole end standing who items said old new h
     (wants rows items h.told h.turns h.stands)
 
-pub unasked_shut : (rows : CentreRows) (past : Past) (who : ℕ) (old new : Talking)
-    → WantsSo None old new → IsParting rows past who old → IsShut who past past
-unasked_shut rows past who old new wants p =
+pub unasked_none : (rows : CentreRows) (past : Past) (who : ℕ) (old new : Talking)
+    → WantsSo None old new → IsParting rows past who old
+    → is_some (association_in past who) ≡ false
+unasked_none rows past who old new wants p =
     let h = p.5 in
     let c = uncut_on p.2 p.3 p.4 rows past past who p.0 p.1 old new refl h
     (wants rows p.0 h.told h.turns h.stands) in
-    none_shut past who
-    (seat_left p.2 p.3 p.4 rows past who p.0 _ None new c.left
-    ∙ ap (λ (x : Progress). is_leaving x) c.ended)
+    seat_left p.2 p.3 p.4 rows past who p.0 _ None new c.left
+    ∙ ap (λ (x : Progress). is_leaving x) c.ended
 
 -- ---- where its close was asked
 
@@ -69,17 +68,15 @@ asked_answer setup past after who event answer v asks b =
     b.right
 
 pub asked_shut : (setup : Setup) (past after : Past) (who : ℕ) (event : EventKind)
-    (answer : Answer) (v : Talking) → IsAskingClose setup.centre past who event v
+    (answer : Answer) → event ≡ events.Close → is_some (association_in past who) ≡ true
     → CameBehind setup who past event (Ok answer) after → IsShut who past after
-asked_shut setup past after who event answer v asks b =
-    let a = asks.6 in
-    record {
-      others = b.others;
-      apart = b.apart;
-      after_is = b.after_is ∙ ap (λ (e : EventKind). with_event who e (b.others ++ past)) a.event_is
-          ∙ ap (λ (x : Bool). if x then with_event who events.Close (b.others ++ past) else past)
-          (sym a.seat);
-    }
+asked_shut setup past after who event answer closes seat b = record {
+  others = b.others;
+  apart = b.apart;
+  after_is = b.after_is ∙ ap (λ (e : EventKind). with_event who e (b.others ++ past)) closes
+      ∙ ap (λ (x : Bool). if x then with_event who events.Close (b.others ++ past) else past)
+      (sym seat);
+}
 
 -- it is never refused
 pub asked_unrefused : (setup : Setup) (past after : Past) (who : ℕ) (event : EventKind)

@@ -29,7 +29,7 @@ use Rattle.tase_conn.specs.Leaving.{IsLeft, Parts}
 use Rattle.conn_service.specs.Courses.Serving.{AreOthers, IsWaiting}
 use Rattle.conn_service.proofs.OfCourses.Seats.{others_opened, opened_here, none_opened, goes_at}
 use Rattle.conn_service.proofs.OfCourses.Wanted.{waiting_of}
-use Rattle.conn_service.specs.Attending.{IsAsking, IsAskingClose}
+use Rattle.conn_service.specs.Attending.{IsAskingClose}
 use Rattle.node_server.specs.Seats.Serving.{IsShut, GoesOrShuts}
 use Rattle.node_server.specs.Seats.Peers.{peer_opened, HasItsPeer, KeepsPeer, limit_of}
 use Rattle.node_server.proofs.OfSeats.Behind.{CameBehind}
@@ -131,15 +131,14 @@ asked_peer asked event past who stage w h =
 pub told_peer : (setup : Setup) (past after : Past) (who : ℕ) (event : EventKind) (answer : Answer)
     (old between : Talking) → CameBehind setup who past event (Ok answer) after
     → between.stage ≡ stage_told old.progress (Ok answer) old.stage
-    → IsAsking setup.centre past who event old → HasItsPeer past who old
+    → IsWaiting old.progress (Some event) → HasItsPeer past who old
     → HasItsPeer after who between
-told_peer setup past after who event answer old between b is x h =
+told_peer setup past after who event answer old between b is waits h =
     let now = b.others ++ past in
-    let s = x.2 in
-    let found = waiting_of old.progress event s.waits in
+    let found = waiting_of old.progress event waits in
     ap stage_peer (is ∙ ap (λ (p : Progress). stage_told p (Ok answer) old.stage) found.1)
     ∙ asked_peer found.0 event now who old.stage
-    (subst (λ (p : Progress). IsWaiting p (Some event)) found.1 s.waits)
+    (subst (λ (p : Progress). IsWaiting p (Some event)) found.1 waits)
     (opened_kept past now who old (others_opened who b.others past b.apart) h)
     ∙ sym (ap (λ (p : Past). peer_opened p who) b.after_is)
 

@@ -1,31 +1,32 @@
 -- Which jobs may be run, and what may come of one.
-use Rattle.std.specs.Prelude.{◌≡◌, []}
+use Rattle.std.specs.Prelude.{◌≡◌, None}
 use Rattle.std.specs.Arc.{arc_value}
 use mathlib.Core.List.{IsPrefix}
 use Rattle.outside.specs.Source.{SourceTold}
 use Rattle.outside.specs.Links.Clocks.{ClockTold}
 use Rattle.outside.specs.Links.Links.{LinkTold}
-use Rattle.share_turn.specs.Entries.{own}
 use Rattle.share_turn.specs.Public.{IsOf, at}
+use Rattle.tase_views.specs.History.{association_in}
 use Rattle.tase_conn.specs.declared.stage.ConnEnd.{ConnEnd}
 use Rattle.node_server.specs.declared.turn.turn_node.NodeSetup.{NodeSetup}
+use Rattle.node_server.specs.Turn.Logged.{past_in}
 use Rattle.node_server.specs.NodeCalls.{NodeSeat}
 use Rattle.node_server.specs.Feeding.{RunsFeed}
 use Rattle.node_server.specs.Ticking.{RunsTicks}
 use Rattle.node_server.specs.declared.feed_end.FeedEnd.{FeedEnd}
 use Rattle.node_server.specs.declared.ticking.TickEnd.{TickEnd}
-use Rattle.node_server.specs.Links.ServedLinks.{ServesLink}
+use Rattle.node_server.specs.Links.ServedLinks.{ServesNextLink}
 use Rattle.node_server.specs.declared.jobs.parts.JobParts.{JobParts}
 use Rattle.node_server.specs.declared.jobs.parts.JobParts.TheVariants as parts
 use Rattle.node_server.specs.declared.jobs.done.NodeDone.{NodeDone}
 use Rattle.node_server.specs.declared.jobs.done.NodeDone.TheVariants as dones
 
 -- The seat is one of the shared node, and the centre is that node's. The seat of a connection has
--- taken no event.
+-- no open association.
 abbrev pub MayRunJob : {L S C : Type 0} → JobParts L S C → Type 0
 MayRunJob {L} {S} {C} (parts.Conn centre shared seat link alloc) =
     IsOf (arc_value shared) seat × (arc_value centre ≡ (arc_value shared).setup.centre)
-    × (own seat.number seat.front ≡ [])
+    × (association_in (past_in seat.front) seat.number ≡ None)
 MayRunJob {L} {S} {C} (parts.Feed centre shared seat source alloc) =
     IsOf (arc_value shared) seat × (arc_value centre ≡ (arc_value shared).setup.centre)
 MayRunJob {L} {S} {C} (parts.Ticks shared seat clock alloc) = IsOf (arc_value shared) seat
@@ -39,7 +40,7 @@ pub record HasSeenMore (seat later : NodeSeat) : Type 0 where
 pub record ComesOfLink (setup : NodeSetup) (seat later : NodeSeat) (link left : LinkTold)
     (end : ConnEnd) : Type 0 where
   pub seat_is : HasSeenMore seat later
-  pub serves : ServesLink setup seat later.front link left end
+  pub serves : ServesNextLink setup seat later.front link left end
 
 -- a feed was told to the node by this seat
 pub record ComesOfFeed (setup : NodeSetup) (seat later : NodeSeat) (source left : SourceTold)

@@ -5,7 +5,7 @@ use mathlib.Core.List.{IsPrefix}
 use Rattle.bilateral.specs.Rows.{CentreRows}
 use Rattle.outside.specs.Links.LinkAnswers.{LinkAnswer, LinkAnswers}
 use Rattle.outside.specs.Links.Links.{LinkTold, closed_link}
-use Rattle.share_turn.specs.Entries.{Each}
+use Rattle.share_turn.specs.Entries.{Each, own}
 use Rattle.share_turn.specs.Public.{at}
 use Rattle.tase_views.specs.History.{Past}
 use Rattle.tase_conn.specs.Map.Inputs.{Item}
@@ -17,6 +17,7 @@ use Rattle.tase_conn.specs.declared.stage.ConnEnd.TheVariants as conn_ends
 use Rattle.conn_service.specs.Sends.{Sends}
 use Rattle.node_server.specs.declared.turn.turn_node.NodeSetup.{NodeSetup}
 use Rattle.node_server.specs.Turn.Logged.{past_in}
+use Rattle.node_server.specs.Seats.Since.{log_since, since_here}
 use Rattle.node_server.specs.Seats.Serving.{shared_setup}
 use Rattle.node_server.specs.Seats.Peers.{limit_of}
 use Rattle.node_server.specs.NodeCalls.{NodeCall, NodeLog, NodeSeat, CallsNode, AsksStop}
@@ -108,14 +109,31 @@ StopsIfFull end calls = calls ≡ []
 
 -- ---- all of it
 
--- a link was served by a seat up to this end, and then closed
-pub record ServesLink (setup : NodeSetup) (seat : NodeSeat) (front : NodeLog)
-    (link later : LinkTold) (end : ConnEnd) : Type 0 where
+-- A link was served so up to this end, over what was seen and as it was used, and then closed; where
+-- the history was full the node was stopped.
+pub record ServesAndCloses (Served : NodeLog → LinkTold → Type 0) (setup : NodeSetup)
+    (seat : NodeSeat) (front : NodeLog) (later : LinkTold) (end : ConnEnd) : Type 0 where
   -- what was seen behind the connection's events, and the link before it was closed
   pub seen : NodeLog
+  pub is_front : IsPrefix seat.front seen
   pub used : LinkTold
-  pub served : ServesUpTo setup seat.number seen link used end
+  pub served : Served seen used
   pub closed : later ≡ closed_link used
   pub stop : List NodeCall
   pub stops : StopsIfFull end stop
   pub stopped : CallsNode setup (at seat seen) stop front
+
+-- a link was served by a seat that had done nothing before
+abbrev pub ServesLink : NodeSetup → NodeSeat → NodeLog → LinkTold → LinkTold → ConnEnd → Type 0
+ServesLink setup seat front link later end = ServesAndCloses
+    (λ (seen : NodeLog) (used : LinkTold). ServesUpTo setup seat.number seen link used end)
+    setup seat front later end
+
+-- A link was served by a seat that may have served others before. What it did for these, in the
+-- front that it had seen, is no act of this link's: to whatever number it is put down of which
+-- nothing was seen, the link was served over all that was seen.
+abbrev pub ServesNextLink : NodeSetup → NodeSeat → NodeLog → LinkTold → LinkTold → ConnEnd → Type 0
+ServesNextLink setup seat front link later end = ServesAndCloses
+    (λ (seen : NodeLog) (used : LinkTold). (other : ℕ) → own other seat.front ≡ []
+    → ServesUpTo setup seat.number (log_since (since_here seat other) seen) link used end)
+    setup seat front later end

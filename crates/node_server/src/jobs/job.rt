@@ -12,7 +12,7 @@ use std::marker::Model;
 use std::sync::Wait;
 
 /// A job that may be run: its seat is one of its shared node, and its centre is that node's. The
-/// seat of a connection has taken no event yet.
+/// seat of a connection has no open association.
 #[derive(Drop)]
 pub struct NodeJob<L, S, C> {
     parts: JobParts<L, S, C>,

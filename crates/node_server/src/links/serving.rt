@@ -1,13 +1,16 @@
 //! A connection, served over a link by a seat of a shared node.
-ghost use Rattle.std.specs.Prelude.{◌≡◌, ◌<◌, ◌≤◌, List, [], length};
+ghost use Rattle.std.specs.Prelude.{◌≡◌, ℕ, ◌<◌, ◌≤◌, List, [], length, None};
 ghost use Rattle.std.specs.Arc.{arc_value};
 ghost use mathlib.Core.List.{IsPrefix};
 ghost use Rattle.outside.specs.Links.Links.{LinkTold};
 ghost use Rattle.share_turn.specs.Public.{IsOf, at};
+ghost use Rattle.tase_views.specs.History.{association_in};
 ghost use Rattle.share_turn.specs.Entries.{own};
-ghost use Rattle.node_server.specs.NodeCalls.{CallsNode, NodeCall};
+ghost use Rattle.node_server.specs.Turn.Logged.{past_in};
+ghost use Rattle.node_server.specs.NodeCalls.{CallsNode, NodeCall, NodeLog};
+ghost use Rattle.node_server.specs.Seats.Since.{log_since, since_here, SomeSince, EachSince};
 ghost use Rattle.node_server.specs.Links.FullEnds.{is_full_end};
-ghost use Rattle.node_server.specs.Links.ServedLinks.{ServesLink, ServesUpTo, StopsIfFull};
+ghost use Rattle.node_server.specs.Links.ServedLinks.{ServesNextLink, ServesUpTo, StopsIfFull};
 ghost use Rattle.node_server.specs.Links.Turns.{IsInTurn, IsStuck, IsToSendBy, TurnsTo};
 
 use crate::links::link_server::LinkServer;
@@ -24,11 +27,11 @@ use std::sync::{Arc, Wait};
 use tase_conn::{Conn, ConnEnd};
 use tase_views::{Event, EventKind};
 
-/// Serves the connection of a link by a seat that has taken no event yet, turn by turn: what the
+/// Serves the connection of a link by a seat without an open association, turn by turn: what the
 /// link gives is taken in, each event that it asks is asked of the shared node, and what is to be
 /// said is sent, until nothing waits or the link takes nothing now. Where more waits then than may,
 /// or the link fails, the connection is given up. The link is closed at the end, and where the
-/// history was full the node is stopped.
+/// history was full the node is stopped. What the seat did before is no act of this connection's.
 pub fn serve_connection<R: Wait, L: Link>(
     rt: &R,
     alloc: Global,
@@ -39,10 +42,10 @@ pub fn serve_connection<R: Wait, L: Link>(
 ) -> ConnEnd
     requires of { IsOf shared.now seat.old }
     requires centre { arc_value centre.now ≡ shared.now.setup.centre }
-    requires none { own seat.old.number seat.old.front ≡ [] }
+    requires closed { association_in (past_in seat.old.front) seat.old.number ≡ None }
     ensures same { seat.new ≡ at seat.old seat.new.front }
     ensures seen { IsPrefix seat.old.front seat.new.front }
-    ensures serves { ServesLink shared.now.setup seat.old seat.new.front (L.told link.old)
+    ensures serves { ServesNextLink shared.now.setup seat.old seat.new.front (L.told link.old)
         (L.told link.new) result }
 {
     let server = LinkServer {
@@ -67,11 +70,13 @@ impl<'a, R: Wait> LinkServer<'a, R> {
     ) -> ConnEnd
         requires of { IsOf self.now.shared.now seat.old }
         requires centre { arc_value centre.now ≡ self.now.shared.now.setup.centre }
-        requires none { own seat.old.number seat.old.front ≡ [] }
+        requires closed { association_in (past_in seat.old.front) seat.old.number ≡ None }
         ensures same { seat.new ≡ at seat.old seat.new.front }
         ensures seen { IsPrefix seat.old.front seat.new.front }
-        ensures serves { ServesUpTo self.now.shared.now.setup seat.old.number seat.new.front
-            (L.told link.old) (L.told link.new) result }
+        ensures serves { (other : ℕ) → own other seat.old.front ≡ []
+            → ServesUpTo self.now.shared.now.setup seat.old.number
+            (log_since (since_here seat.old other) seat.new.front) (L.told link.old)
+            (L.told link.new) result }
     {
         let Ok(mut room) = vec![in self.alloc; 0u8; PIECE] else {
             note_end(link, self.centre, None, ConnEnd::Memory);
@@ -99,14 +104,17 @@ impl<'a, R: Wait> LinkServer<'a, R> {
         requires of { IsOf self.now.shared.now seat.old }
         requires some { 0 < length room.old }
         requires few { length room.old ≤ PIECE }
-        requires turn { (start : LinkTold) × IsInTurn self.now.shared.now.setup seat.old.number
-            seat.old.front start (L.told link.old) conn.old }
+        requires turn { SomeSince seat.old.front (λ (log : NodeLog).
+            (start : LinkTold) × IsInTurn self.now.shared.now.setup seat.old.number log start
+            (L.told link.old) conn.old) }
         ensures same { seat.new ≡ at seat.old seat.new.front }
         ensures seen { IsPrefix seat.old.front seat.new.front }
-        ensures serves { (start : LinkTold) → IsInTurn self.now.shared.now.setup seat.old.number
-            seat.old.front start (L.told link.old) conn.old
-            → ServesUpTo self.now.shared.now.setup seat.old.number seat.new.front start
-            (L.told link.new) result }
+        ensures serves { EachSince seat.old.front seat.new.front (λ (log longer : NodeLog).
+            (start : LinkTold)
+            → IsInTurn self.now.shared.now.setup seat.old.number log start (L.told link.old)
+            conn.old
+            → ServesUpTo self.now.shared.now.setup seat.old.number longer start (L.told link.new)
+            result) }
     {
         for _ in self.rt.forever() {
             if let Some(end) = self.take_turn(seat, conn, link, room) {
@@ -128,14 +136,17 @@ impl<'a, R: Wait> LinkServer<'a, R> {
         requires of { IsOf self.now.shared.now seat.old }
         requires some { 0 < length room.old }
         requires few { length room.old ≤ PIECE }
-        requires turn { (start : LinkTold) × IsInTurn self.now.shared.now.setup seat.old.number
-            seat.old.front start (L.told link.old) conn.old }
+        requires turn { SomeSince seat.old.front (λ (log : NodeLog).
+            (start : LinkTold) × IsInTurn self.now.shared.now.setup seat.old.number log start
+            (L.told link.old) conn.old) }
         ensures same { seat.new ≡ at seat.old seat.new.front }
         ensures seen { IsPrefix seat.old.front seat.new.front }
-        ensures turns { (start : LinkTold) → IsInTurn self.now.shared.now.setup seat.old.number
-            seat.old.front start (L.told link.old) conn.old
-            → TurnsTo result self.now.shared.now.setup seat.old.number seat.new.front start
-            (L.told link.new) conn.new }
+        ensures turns { EachSince seat.old.front seat.new.front (λ (log longer : NodeLog).
+            (start : LinkTold)
+            → IsInTurn self.now.shared.now.setup seat.old.number log start (L.told link.old)
+            conn.old
+            → TurnsTo result self.now.shared.now.setup seat.old.number longer start
+            (L.told link.new) conn.new) }
     {
         match self.receive_turn(seat, conn, link, room) {
             Turn::Over(end) => Some(end),
@@ -152,14 +163,17 @@ impl<'a, R: Wait> LinkServer<'a, R> {
         ended: Option<ConnEnd>,
     ) -> Option<ConnEnd>
         requires of { IsOf self.now.shared.now seat.old }
-        requires sends { (start : LinkTold) × IsToSendBy ended self.now.shared.now.setup
-            seat.old.number seat.old.front start (L.told link.old) conn.old }
+        requires sends { SomeSince seat.old.front (λ (log : NodeLog).
+            (start : LinkTold) × IsToSendBy ended self.now.shared.now.setup seat.old.number log
+            start (L.told link.old) conn.old) }
         ensures same { seat.new ≡ at seat.old seat.new.front }
         ensures seen { IsPrefix seat.old.front seat.new.front }
-        ensures turns { (start : LinkTold) → IsToSendBy ended self.now.shared.now.setup
-            seat.old.number seat.old.front start (L.told link.old) conn.old
-            → TurnsTo result self.now.shared.now.setup seat.old.number seat.new.front start
-            (L.told link.new) conn.new }
+        ensures turns { EachSince seat.old.front seat.new.front (λ (log longer : NodeLog).
+            (start : LinkTold)
+            → IsToSendBy ended self.now.shared.now.setup seat.old.number log start (L.told link.old)
+            conn.old
+            → TurnsTo result self.now.shared.now.setup seat.old.number longer start
+            (L.told link.new) conn.new) }
     {
         let sends = send_pending(link, conn);
         match ended {
@@ -178,15 +192,15 @@ impl<'a, R: Wait> LinkServer<'a, R> {
     /// Gives a connection up whose link takes nothing now, where more waits than may.
     fn overflow(&self, seat: &mut Seat<TurnNode>, conn: &mut Conn) -> Option<ConnEnd>
         requires of { IsOf self.now.shared.now seat.old }
-        requires stuck { (start : LinkTold) × (used : LinkTold)
-            × IsStuck self.now.shared.now.setup seat.old.number seat.old.front start used
-            conn.old }
+        requires stuck { SomeSince seat.old.front (λ (log : NodeLog).
+            (start : LinkTold) × (used : LinkTold) × IsStuck self.now.shared.now.setup
+            seat.old.number log start used conn.old) }
         ensures same { seat.new ≡ at seat.old seat.new.front }
         ensures seen { IsPrefix seat.old.front seat.new.front }
-        ensures turns { (start used : LinkTold) → IsStuck self.now.shared.now.setup
-            seat.old.number seat.old.front start used conn.old
-            → TurnsTo result self.now.shared.now.setup seat.old.number seat.new.front start used
-            conn.new }
+        ensures turns { EachSince seat.old.front seat.new.front (λ (log longer : NodeLog).
+            (start used : LinkTold)
+            → IsStuck self.now.shared.now.setup seat.old.number log start used conn.old
+            → TurnsTo result self.now.shared.now.setup seat.old.number longer start used conn.new) }
     {
         let pending = conn.pending().len() as u64;
         let limit = conn.limit();

@@ -3,6 +3,8 @@ ghost use Rattle.std.specs.Prelude.{◌≡◌, ◌<◌, ◌≤◌, length};
 ghost use mathlib.Core.List.{IsPrefix};
 ghost use Rattle.outside.specs.Links.Links.{LinkTold};
 ghost use Rattle.share_turn.specs.Public.{IsOf, at};
+ghost use Rattle.node_server.specs.NodeCalls.{NodeLog};
+ghost use Rattle.node_server.specs.Seats.Since.{SomeSince, EachSince};
 ghost use Rattle.node_server.specs.Links.Turns.{IsInTurn, IsUnderWay, IsToSendBy};
 ghost use Rattle.node_server.specs.Links.Leaving.{IsToLeave, IsLeftFor};
 ghost use Rattle.node_server.specs.Links.Turning.{ComesTo};
@@ -38,14 +40,17 @@ impl<'a, R: Wait> LinkServer<'a, R> {
         requires of { IsOf self.now.shared.now seat.old }
         requires some { 0 < length room.old }
         requires few { length room.old ≤ PIECE }
-        requires turn { (start : LinkTold) × IsInTurn self.now.shared.now.setup seat.old.number
-            seat.old.front start (L.told link.old) conn.old }
+        requires turn { SomeSince seat.old.front (λ (log : NodeLog).
+            (start : LinkTold) × IsInTurn self.now.shared.now.setup seat.old.number log start
+            (L.told link.old) conn.old) }
         ensures same { seat.new ≡ at seat.old seat.new.front }
         ensures seen { IsPrefix seat.old.front seat.new.front }
-        ensures comes { (start : LinkTold) → IsInTurn self.now.shared.now.setup seat.old.number
-            seat.old.front start (L.told link.old) conn.old
-            → ComesTo result self.now.shared.now.setup seat.old.number seat.new.front start
-            (L.told link.new) conn.new }
+        ensures comes { EachSince seat.old.front seat.new.front (λ (log longer : NodeLog).
+            (start : LinkTold)
+            → IsInTurn self.now.shared.now.setup seat.old.number log start (L.told link.old)
+            conn.old
+            → ComesTo result self.now.shared.now.setup seat.old.number longer start
+            (L.told link.new) conn.new) }
     {
         match receive(link, conn, room) {
             Intake::Failed => {
@@ -68,15 +73,16 @@ impl<'a, R: Wait> LinkServer<'a, R> {
         link: &L,
     ) -> Option<ConnEnd>
         requires of { IsOf self.now.shared.now seat.old }
-        requires way { (start : LinkTold) × (used : LinkTold)
-            × IsUnderWay self.now.shared.now.setup seat.old.number seat.old.front start used
-            conn.old }
+        requires way { SomeSince seat.old.front (λ (log : NodeLog).
+            (start : LinkTold) × (used : LinkTold) × IsUnderWay self.now.shared.now.setup
+            seat.old.number log start used conn.old) }
         ensures same { seat.new ≡ at seat.old seat.new.front }
         ensures seen { IsPrefix seat.old.front seat.new.front }
-        ensures attended { (start used : LinkTold) → IsUnderWay self.now.shared.now.setup
-            seat.old.number seat.old.front start used conn.old
-            → IsToSendBy result self.now.shared.now.setup seat.old.number seat.new.front start used
-            conn.new }
+        ensures attended { EachSince seat.old.front seat.new.front (λ (log longer : NodeLog).
+            (start used : LinkTold)
+            → IsUnderWay self.now.shared.now.setup seat.old.number log start used conn.old
+            → IsToSendBy result self.now.shared.now.setup seat.old.number longer start used
+            conn.new) }
     {
         let before = conn.peer();
         attend_seat(self.rt, self.alloc, self.shared, seat, conn);
@@ -87,15 +93,15 @@ impl<'a, R: Wait> LinkServer<'a, R> {
     /// Gives a connection up for an end that isn't the node's.
     pub(crate) fn leave_for(&self, seat: &mut Seat<TurnNode>, conn: &mut Conn, end: ConnEnd)
         requires of { IsOf self.now.shared.now seat.old }
-        requires leaves { (start : LinkTold) × (used : LinkTold)
-            × IsToLeave self.now.shared.now.setup seat.old.number seat.old.front start used
-            conn.old end }
+        requires leaves { SomeSince seat.old.front (λ (log : NodeLog).
+            (start : LinkTold) × (used : LinkTold) × IsToLeave self.now.shared.now.setup
+            seat.old.number log start used conn.old end) }
         ensures same { seat.new ≡ at seat.old seat.new.front }
         ensures seen { IsPrefix seat.old.front seat.new.front }
-        ensures left { (start used : LinkTold) → IsToLeave self.now.shared.now.setup
-            seat.old.number seat.old.front start used conn.old end
-            → IsLeftFor end self.now.shared.now.setup seat.old.number seat.new.front start used
-            conn.new }
+        ensures left { EachSince seat.old.front seat.new.front (λ (log longer : NodeLog).
+            (start used : LinkTold)
+            → IsToLeave self.now.shared.now.setup seat.old.number log start used conn.old end
+            → IsLeftFor end self.now.shared.now.setup seat.old.number longer start used conn.new) }
     {
         leave_seat(self.rt, self.alloc, self.shared, seat, conn, end);
     }

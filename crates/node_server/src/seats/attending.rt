@@ -12,6 +12,8 @@ ghost use Rattle.conn_service.specs.Attending.{IsServed, IsAsking, IsParting, Is
 ghost use Rattle.conn_service.specs.Attending.{SendsOn};
 ghost use Rattle.share_turn.specs.Public.{IsOf, at};
 ghost use Rattle.node_server.specs.Turn.Logged.{past_in};
+ghost use Rattle.node_server.specs.NodeCalls.{NodeLog};
+ghost use Rattle.node_server.specs.Seats.Since.{SomeSince, EachSince};
 ghost use Rattle.node_server.specs.Seats.Serving.{shared_setup, SeatAttends, IsCutBySeat, SeatTakes};
 ghost use Rattle.node_server.specs.Seats.Serving.{IsServersEnd, RestsFor, IsShut};
 ghost use Rattle.node_server.specs.Seats.Serving.{ClosesOverAll, ClosesAsked};
@@ -37,27 +39,28 @@ pub fn attend_seat<R: Wait>(
     conn: &mut Conn,
 )
     requires of { IsOf shared.now seat.old }
-    requires served { IsServed shared.now.setup.centre (past_in seat.old.front) seat.old.number
-        conn.old }
+    requires served { SomeSince seat.old.front (λ (log : NodeLog).
+        IsServed shared.now.setup.centre (past_in log) seat.old.number conn.old) }
     ensures same { seat.new ≡ at seat.old seat.new.front }
     ensures seen { IsPrefix seat.old.front seat.new.front }
-    ensures attended { (items : List Item) (said : List ℕ)
-        → Serves shared.now.setup.centre (past_in seat.old.front) seat.old.number items said None
-        conn.old
+    ensures attended { EachSince seat.old.front seat.new.front (λ (log longer : NodeLog).
+        (items : List Item) (said : List ℕ)
+        → Serves shared.now.setup.centre (past_in log) seat.old.number items said None conn.old
         → SeatAttends (shared_setup shared.now.setup) seat.old.number items said conn.old
-        (past_in seat.new.front) conn.new }
-    ensures takes { (items : List Item) (said : List ℕ)
-        → Serves shared.now.setup.centre (past_in seat.old.front) seat.old.number items said None
-        conn.old
-        → SeatTakes (shared_setup shared.now.setup) (past_in seat.old.front) seat.old.number items
-        (past_in seat.new.front) (conn_end_in conn.new.progress) }
-    ensures sends { (items : List Item) (said : List ℕ)
-        → Serves shared.now.setup.centre (past_in seat.old.front) seat.old.number items said None
-        conn.old
+        (past_in longer) conn.new) }
+    ensures takes { EachSince seat.old.front seat.new.front (λ (log longer : NodeLog).
+        (items : List Item) (said : List ℕ)
+        → Serves shared.now.setup.centre (past_in log) seat.old.number items said None conn.old
+        → SeatTakes (shared_setup shared.now.setup) (past_in log) seat.old.number items
+        (past_in longer) (conn_end_in conn.new.progress)) }
+    ensures sends { EachSince seat.old.front seat.new.front (λ (log longer : NodeLog).
+        (items : List Item) (said : List ℕ)
+        → Serves shared.now.setup.centre (past_in log) seat.old.number items said None conn.old
         → SendsOn (shared_setup shared.now.setup) seat.old.number items said conn.old
-        (past_in seat.new.front) conn.new }
-    ensures peer { HasItsPeer (past_in seat.old.front) seat.old.number conn.old
-        → HasItsPeer (past_in seat.new.front) seat.new.number conn.new }
+        (past_in longer) conn.new) }
+    ensures peer { EachSince seat.old.front seat.new.front (λ (log longer : NodeLog).
+        HasItsPeer (past_in log) seat.old.number conn.old
+        → HasItsPeer (past_in longer) seat.new.number conn.new) }
 {
     let attendant = Attendant { rt, alloc, shared };
     attendant.attend(seat, conn);
@@ -75,26 +78,28 @@ pub fn leave_seat<R: Wait>(
     end: ConnEnd,
 )
     requires of { IsOf shared.now seat.old }
-    requires served { IsServed shared.now.setup.centre (past_in seat.old.front) seat.old.number
-        conn.old }
+    requires served { SomeSince seat.old.front (λ (log : NodeLog).
+        IsServed shared.now.setup.centre (past_in log) seat.old.number conn.old) }
     requires running { conn.old.progress ≡ progresses.Running askeds.Nothing }
     requires end { IsServersEnd end }
     requires rests { RestsFor end conn.old }
     ensures same { seat.new ≡ at seat.old seat.new.front }
     ensures seen { IsPrefix seat.old.front seat.new.front }
-    ensures left { (items : List Item) (said : List ℕ)
-        → Serves shared.now.setup.centre (past_in seat.old.front) seat.old.number items said None
-        conn.old
+    ensures left { EachSince seat.old.front seat.new.front (λ (log longer : NodeLog).
+        (items : List Item) (said : List ℕ)
+        → Serves shared.now.setup.centre (past_in log) seat.old.number items said None conn.old
         → IsCutBySeat (shared_setup shared.now.setup) seat.old.number items said end conn.old
-        (past_in seat.new.front) conn.new }
-    ensures shuts { IsShut seat.old.number (past_in seat.old.front) (past_in seat.new.front) }
-    ensures sends { (items : List Item) (said : List ℕ)
-        → Serves shared.now.setup.centre (past_in seat.old.front) seat.old.number items said None
-        conn.old
+        (past_in longer) conn.new) }
+    ensures shuts { EachSince seat.old.front seat.new.front (λ (log longer : NodeLog).
+        IsShut seat.old.number (past_in log) (past_in longer)) }
+    ensures sends { EachSince seat.old.front seat.new.front (λ (log longer : NodeLog).
+        (items : List Item) (said : List ℕ)
+        → Serves shared.now.setup.centre (past_in log) seat.old.number items said None conn.old
         → SendsOn (shared_setup shared.now.setup) seat.old.number items said conn.old
-        (past_in seat.new.front) conn.new }
-    ensures peer { HasItsPeer (past_in seat.old.front) seat.old.number conn.old
-        → HasItsPeer (past_in seat.new.front) seat.new.number conn.new }
+        (past_in longer) conn.new) }
+    ensures peer { EachSince seat.old.front seat.new.front (λ (log longer : NodeLog).
+        HasItsPeer (past_in log) seat.old.number conn.old
+        → HasItsPeer (past_in longer) seat.new.number conn.new) }
 {
     conn.give_up(end);
     let attendant = Attendant { rt, alloc, shared };
@@ -112,22 +117,25 @@ struct Attendant<'a, R> {
 impl<'a, R: Wait> Attendant<'a, R> {
     fn attend(&self, seat: &mut Seat<TurnNode>, conn: &mut Conn)
         requires of { IsOf self.now.shared.now seat.old }
-        requires served { IsServed self.now.shared.now.setup.centre (past_in seat.old.front)
-            seat.old.number conn.old }
+        requires served { SomeSince seat.old.front (λ (log : NodeLog).
+            IsServed self.now.shared.now.setup.centre (past_in log) seat.old.number conn.old) }
         ensures same { seat.new ≡ at seat.old seat.new.front }
         ensures seen { IsPrefix seat.old.front seat.new.front }
-        ensures attended { (items : List Item) (said : List ℕ)
-            → Serves self.now.shared.now.setup.centre (past_in seat.old.front) seat.old.number
-            items said None conn.old
+        ensures attended { EachSince seat.old.front seat.new.front (λ (log longer : NodeLog).
+            (items : List Item) (said : List ℕ)
+            → Serves self.now.shared.now.setup.centre (past_in log) seat.old.number items said None
+            conn.old
             → SeatAttends (shared_setup self.now.shared.now.setup) seat.old.number items said
-            conn.old (past_in seat.new.front) conn.new }
-        ensures takes { (items : List Item) (said : List ℕ)
-            → Serves self.now.shared.now.setup.centre (past_in seat.old.front) seat.old.number
-            items said None conn.old
-            → SeatTakes (shared_setup self.now.shared.now.setup) (past_in seat.old.front)
-            seat.old.number items (past_in seat.new.front) (conn_end_in conn.new.progress) }
-        ensures peer { HasItsPeer (past_in seat.old.front) seat.old.number conn.old
-            → HasItsPeer (past_in seat.new.front) seat.new.number conn.new }
+            conn.old (past_in longer) conn.new) }
+        ensures takes { EachSince seat.old.front seat.new.front (λ (log longer : NodeLog).
+            (items : List Item) (said : List ℕ)
+            → Serves self.now.shared.now.setup.centre (past_in log) seat.old.number items said None
+            conn.old
+            → SeatTakes (shared_setup self.now.shared.now.setup) (past_in log) seat.old.number items
+            (past_in longer) (conn_end_in conn.new.progress)) }
+        ensures peer { EachSince seat.old.front seat.new.front (λ (log longer : NodeLog).
+            HasItsPeer (past_in log) seat.old.number conn.old
+            → HasItsPeer (past_in longer) seat.new.number conn.new) }
     {
         while let Some(event) = self.wanted(seat, conn) {
             if !self.answer(seat, conn, event) {
@@ -140,17 +148,19 @@ impl<'a, R: Wait> Attendant<'a, R> {
     /// up.
     fn wanted(&self, seat: &mut Seat<TurnNode>, conn: &mut Conn) -> Option<Event>
         requires of { IsOf self.now.shared.now seat.old }
-        requires served { IsServed self.now.shared.now.setup.centre (past_in seat.old.front)
-            seat.old.number conn.old }
+        requires served { SomeSince seat.old.front (λ (log : NodeLog).
+            IsServed self.now.shared.now.setup.centre (past_in log) seat.old.number conn.old) }
         ensures same { seat.new ≡ at seat.old seat.new.front }
         ensures seen { IsPrefix seat.old.front seat.new.front }
-        ensures wants { (items : List Item) (said : List ℕ)
-            → Serves self.now.shared.now.setup.centre (past_in seat.old.front) seat.old.number
-            items said None conn.old
-            → WantsOfSeat (shared_setup self.now.shared.now.setup) (past_in seat.old.front)
-            seat.old.number items said conn.old result (past_in seat.new.front) conn.new }
-        ensures peer { HasItsPeer (past_in seat.old.front) seat.old.number conn.old
-            → HasItsPeer (past_in seat.new.front) seat.new.number conn.new }
+        ensures wants { EachSince seat.old.front seat.new.front (λ (log longer : NodeLog).
+            (items : List Item) (said : List ℕ)
+            → Serves self.now.shared.now.setup.centre (past_in log) seat.old.number items said None
+            conn.old
+            → WantsOfSeat (shared_setup self.now.shared.now.setup) (past_in log) seat.old.number
+            items said conn.old result (past_in longer) conn.new) }
+        ensures peer { EachSince seat.old.front seat.new.front (λ (log longer : NodeLog).
+            HasItsPeer (past_in log) seat.old.number conn.old
+            → HasItsPeer (past_in longer) seat.new.number conn.new) }
     {
         match conn.want() {
             Ok(event) => event,
@@ -167,17 +177,20 @@ impl<'a, R: Wait> Attendant<'a, R> {
     /// said.
     fn answer(&self, seat: &mut Seat<TurnNode>, conn: &mut Conn, event: Event) -> bool
         requires of { IsOf self.now.shared.now seat.old }
-        requires waits { IsAsking self.now.shared.now.setup.centre (past_in seat.old.front)
-            seat.old.number event conn.old }
+        requires waits { SomeSince seat.old.front (λ (log : NodeLog).
+            IsAsking self.now.shared.now.setup.centre (past_in log) seat.old.number event
+            conn.old) }
         ensures same { seat.new ≡ at seat.old seat.new.front }
         ensures seen { IsPrefix seat.old.front seat.new.front }
-        ensures answers { (items : List Item) (said : List ℕ)
-            → Serves self.now.shared.now.setup.centre (past_in seat.old.front) seat.old.number
-            items said (Some event) conn.old
-            → AnswersOfSeat (shared_setup self.now.shared.now.setup) (past_in seat.old.front)
-            seat.old.number items said event conn.old result (past_in seat.new.front) conn.new }
-        ensures peer { HasItsPeer (past_in seat.old.front) seat.old.number conn.old
-            → HasItsPeer (past_in seat.new.front) seat.new.number conn.new }
+        ensures answers { EachSince seat.old.front seat.new.front (λ (log longer : NodeLog).
+            (items : List Item) (said : List ℕ)
+            → Serves self.now.shared.now.setup.centre (past_in log) seat.old.number items said
+            (Some event) conn.old
+            → AnswersOfSeat (shared_setup self.now.shared.now.setup) (past_in log) seat.old.number
+            items said event conn.old result (past_in longer) conn.new) }
+        ensures peer { EachSince seat.old.front seat.new.front (λ (log longer : NodeLog).
+            HasItsPeer (past_in log) seat.old.number conn.old
+            → HasItsPeer (past_in longer) seat.new.number conn.new) }
     {
         match self.shared.call(self.rt, self.alloc, seat, event) {
             Ok(answer) => match conn.tell(Ok(answer)) {
@@ -202,12 +215,13 @@ impl<'a, R: Wait> Attendant<'a, R> {
     fn goes_on(&self, seat: &mut Seat<TurnNode>, conn: &mut Conn) -> bool
         requires of { IsOf self.now.shared.now seat.old }
         requires left { is_leaving conn.old.progress ≡ true
-            → IsParting self.now.shared.now.setup.centre (past_in seat.old.front) seat.old.number
-            conn.old }
+            → SomeSince seat.old.front (λ (log : NodeLog).
+            IsParting self.now.shared.now.setup.centre (past_in log) seat.old.number conn.old) }
         ensures same { seat.new ≡ at seat.old seat.new.front }
         ensures seen { IsPrefix seat.old.front seat.new.front }
-        ensures goes { GoesOrShuts result self.now.shared.now.setup.centre seat.old.number
-            (past_in seat.old.front) conn.old (past_in seat.new.front) conn.new }
+        ensures goes { EachSince seat.old.front seat.new.front (λ (log longer : NodeLog).
+            GoesOrShuts result self.now.shared.now.setup.centre seat.old.number (past_in log)
+            conn.old (past_in longer) conn.new) }
         ensures peer { KeepsPeer conn.old conn.new }
     {
         if !conn.is_leaving() {
@@ -220,11 +234,12 @@ impl<'a, R: Wait> Attendant<'a, R> {
     /// Closes the association of a connection that was left, where one is open. No memory is taken.
     fn close(&self, seat: &mut Seat<TurnNode>, conn: &mut Conn)
         requires of { IsOf self.now.shared.now seat.old }
-        requires left { IsParting self.now.shared.now.setup.centre (past_in seat.old.front)
-            seat.old.number conn.old }
+        requires left { SomeSince seat.old.front (λ (log : NodeLog).
+            IsParting self.now.shared.now.setup.centre (past_in log) seat.old.number conn.old) }
         ensures same { seat.new ≡ at seat.old seat.new.front }
         ensures seen { IsPrefix seat.old.front seat.new.front }
-        ensures shuts { IsShut seat.old.number (past_in seat.old.front) (past_in seat.new.front) }
+        ensures shuts { EachSince seat.old.front seat.new.front (λ (log longer : NodeLog).
+            IsShut seat.old.number (past_in log) (past_in longer)) }
         ensures closes { ClosesOverAll self.now.shared.now.setup.centre seat.old.number conn.old
             conn.new }
         ensures peer { KeepsPeer conn.old conn.new }
@@ -238,11 +253,13 @@ impl<'a, R: Wait> Attendant<'a, R> {
     /// Takes the close of a connection that was left, and tells it so.
     fn take_close(&self, seat: &mut Seat<TurnNode>, conn: &mut Conn, event: Event)
         requires of { IsOf self.now.shared.now seat.old }
-        requires asks { IsAskingClose self.now.shared.now.setup.centre (past_in seat.old.front)
-            seat.old.number event conn.old }
+        requires asks { SomeSince seat.old.front (λ (log : NodeLog).
+            IsAskingClose self.now.shared.now.setup.centre (past_in log) seat.old.number event
+            conn.old) }
         ensures same { seat.new ≡ at seat.old seat.new.front }
         ensures seen { IsPrefix seat.old.front seat.new.front }
-        ensures shuts { IsShut seat.old.number (past_in seat.old.front) (past_in seat.new.front) }
+        ensures shuts { EachSince seat.old.front seat.new.front (λ (log longer : NodeLog).
+            IsShut seat.old.number (past_in log) (past_in longer)) }
         ensures closes { ClosesAsked self.now.shared.now.setup.centre seat.old.number event
             conn.old conn.new }
         ensures peer { KeepsPeer conn.old conn.new }

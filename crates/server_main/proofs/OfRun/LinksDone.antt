@@ -15,6 +15,7 @@ use Rattle.node_server.specs.TaseConn.declared.stage.ConnEnd.{ConnEnd}
 use Rattle.node_server.specs.declared.turn.turn_node.NodeSetup.{NodeSetup}
 use Rattle.node_server.specs.NodeCalls.{NodeLog, NodeSeat}
 use Rattle.node_server.specs.Links.ServedLinks.{ServesLink}
+use Rattle.node_server.proofs.OfLinks.LeftClosed.{fresh_serves}
 use Rattle.node_server.specs.Jobs.Running.{MayComeOfJob}
 use Rattle.node_server.specs.declared.jobs.parts.JobParts.{JobParts}
 use Rattle.node_server.specs.declared.jobs.parts.JobParts.TheVariants as parts
@@ -147,7 +148,9 @@ module _ {L S C : Type 0} (link_told : L → LinkTold) (feed_told : S → Source
         serves = serves-so (arc_value shared).setup node.setup seat later.front (link_told link)
             (link_told left) (link_told back) end linked.end
             (ap (λ (x : SharedNode). x.setup) f.1.same) (ap link_told (sym t.0))
-            (sym (ap (λ (x : LinkSeat). x.end) t.1)) m.serves;
+            (sym (ap (λ (x : LinkSeat). x.end) t.1))
+            (fresh_serves (arc_value shared).setup seat later.front (link_told link)
+            (link_told left) end f.1.none m.serves);
       } in
       record {
         served = one ∷ rest.served;

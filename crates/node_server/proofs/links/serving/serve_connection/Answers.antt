@@ -15,6 +15,7 @@ pub returns-clause-serves : goal.returns-clause-serves
 returns-clause-serves g c =
     let stops = c.stop_if_full.ensures.stops in record {
       seen = c.serve-end.new.seat.front;
+      is_front = c.serve-end.ensures.seen;
       used = g.L.Link.told c.serve-end.new.link;
       served = c.serve-end.ensures.serves;
       closed = c.close.ensures;
