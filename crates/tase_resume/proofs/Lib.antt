@@ -1,0 +1,55 @@
+pub mod RaisedHolds
+pub mod QuietActs
+pub mod Calm
+pub mod Closing
+pub mod OpenCounts
+pub mod Settled
+pub mod Like
+pub mod SeenAlike
+pub mod NameOrder
+pub mod NamesThere
+pub mod SlotParts
+pub mod SetsAlike
+pub mod SlotsAlike
+pub mod KeysAlike
+pub mod PeerOffsets
+pub mod ViewsAlike
+pub mod SeenOrder
+pub mod FreeSlots
+pub mod Selectable
+pub mod PointsNamed
+pub mod MoreChanges
+pub mod NotedPairs
+pub mod ReportsAlike
+pub mod PendingAlike
+pub mod StepAlike
+pub mod TablesSeen
+pub mod Fresh
+pub mod GivenKeys
+pub mod BaseSettled
+pub mod DeviceStates
+pub mod AnswersAlike
+pub mod Resumed
+pub mod CountedMoves
+pub mod HeldReports
+pub mod AnsweredAlike
+pub mod SetLists
+pub mod SetsListed
+pub mod WarmKnown
+pub mod WarmTold
+pub mod WarmSteps
+pub mod WarmSets
+pub mod ChangesKept
+pub mod MomentSeen
+pub mod ValuesSeen
+pub mod SettledAlike
+pub mod ChainAlike
+pub mod Sound
+pub mod SettledTells
+pub mod SettledSets
+pub mod WarmRead
+pub mod ReadBack
+mod Worked
+mod WorkedTables
+mod WorkedAnswers
+mod WorkedSnapshots
