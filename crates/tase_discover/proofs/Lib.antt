@@ -1,0 +1,13 @@
+pub mod Noting
+pub mod Falling
+pub mod Lines
+pub mod Alike
+pub mod Open
+pub mod Held
+pub mod Differing
+pub mod ShortCalls
+pub mod Rising
+pub mod Paged
+pub mod Typed
+pub mod SelfListed
+mod WorkedListings
