@@ -13,4 +13,5 @@ pub mod ReplayRead
 pub mod VerifyRead
 pub mod ServeRead
 pub mod ClientRead
+pub mod DiscoverRead
 pub mod ReadForms

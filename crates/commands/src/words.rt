@@ -6,4 +6,6 @@ mod reading;
 mod words;
 
 pub use reading::read_command;
-pub use words::{ClientWords, Command, HISTORY_LIMIT, Options, Question, ServeWords};
+pub use words::{
+    ClientWords, Command, DiscoverWords, HISTORY_LIMIT, Options, Question, ServeWords,
+};

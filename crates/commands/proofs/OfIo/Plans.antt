@@ -10,7 +10,7 @@ use Rattle.outside.specs.Names.Outside.{OutsideTold}
 use Rattle.commands.specs.declared.io.status.Status.{Status}
 use Rattle.commands.specs.declared.io.status.Status.TheVariants as statuses
 use Rattle.commands.specs.declared.io.input.Refusal.{Refusal}
-use Rattle.commands.specs.declared.io.input.Refusal.TheVariants.{Long, BadLine}
+use Rattle.commands.specs.declared.io.input.Refusal.TheVariants.{Long, BadLine, BadKey}
 use Rattle.commands.specs.declared.io.input.InputEnd.{InputEnd}
 use Rattle.commands.specs.declared.io.input.InputEnd.TheVariants.{Refused, Outside, Memory}
 use Rattle.commands.specs.Io.Saying.{Said, Text, untold, missing, told, emptied, text_of, texts_of}
@@ -234,6 +234,9 @@ module _ (b m a : OutsideTold) (asked : Asked) (next : List ℕ → Plan) where
       here (BadLine line) untold at is ran = absurd is
       here (BadLine line) missing at is ran = absurd cc
       here (BadLine line) (told octets) at is ran = absurd is
+      here BadKey untold at is ran = absurd is
+      here BadKey missing at is ran = absurd cc
+      here BadKey (told octets) at is ran = absurd is
 
   -- it isn't there, since something outside failed or memory ran out
   runs_unread : (status : Status) → IsCut status → OpensInput b m asked.file (is_outside status)
@@ -274,6 +277,7 @@ module _ {V : Type 0} (b m a : OutsideTold) (asked : Asked) (spelled : List ℕ 
   spelled_plan octets (Err (Refused (BadLine line))) status is run =
       subst (λ r. RunsPlan (by_value asked.called then r) m a status) (sym is)
       run.0
+  spelled_plan octets (Err (Refused BadKey)) status is run = absurd is
   spelled_plan octets (Err Outside) status is run = absurd is
   spelled_plan octets (Err Memory) status is run =
       let plan = by_value asked.called then (spelled octets) in
@@ -342,6 +346,7 @@ module _ {V : Type 0} (spelled : List ℕ → Result V ℕ) (name : List ℕ) (l
     fact_spelled octets (Err (Refused Long)) is end = absurd is
     fact_spelled octets (Err (Refused (BadLine line))) is end =
         subst (λ r. IfOk r fact) (sym is) tt
+    fact_spelled octets (Err (Refused BadKey)) is end = absurd is
     fact_spelled octets (Err Outside) is end = absurd is
     fact_spelled octets (Err Memory) is end = each (spelled octets) end
 
@@ -356,6 +361,7 @@ module _ {V : Type 0} (spelled : List ℕ → Result V ℕ) (name : List ℕ) (l
     fact_read (Err (Refused Long)) result (told octets) input is end =
         λ within. absurd (omega (arith, input, within))
     fact_read (Err (Refused (BadLine line))) result (told octets) input is end = absurd input
+    fact_read (Err (Refused BadKey)) result (told octets) input is end = absurd input
     fact_read (Err Outside) result (told octets) input is end =
         λ within. each (spelled octets) (subst (λ r. OnEnd r fact) is end)
     fact_read (Err Memory) result (told octets) input is end =

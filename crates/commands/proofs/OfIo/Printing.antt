@@ -16,7 +16,7 @@ use Rattle.commands.specs.Io.Statuses.{is_outside, is_whole, is_of_command, OnWh
 use Rattle.commands.specs.Io.OutsideUse.{SomeOf, Rises, Uses, source_faults, sink_faults, FailedAt}
 use Rattle.commands.specs.Io.OutsideUse.{FaultyAt, IsTextRead, IsWritten}
 use Rattle.commands.specs.declared.io.input.Refusal.{Refusal}
-use Rattle.commands.specs.declared.io.input.Refusal.TheVariants.{Long, BadLine}
+use Rattle.commands.specs.declared.io.input.Refusal.TheVariants.{Long, BadLine, BadKey}
 use Rattle.commands.specs.Io.Saying.{Said, names_in, duty_to_say, refusal_text, full_text}
 use Rattle.commands.specs.Io.Runs.{output_name, taken_of, Took, EachFile, IsSaid, MatchesWords}
 use Rattle.commands.specs.Io.Runs.{IsSinkThere, outputs_of, IsRun, TellsSaid, TellsOut}
@@ -31,6 +31,7 @@ use Rattle.commands.proofs.OfIo.Running.{OnWhole-all, OnWhole-map, complete_of, 
 abbrev pub refusal_rest : Refusal → List ℕ
 refusal_rest Long = codes " long" ++ 10 ∷ []
 refusal_rest (BadLine line) = (codes " line " ++ decimal line) ++ 10 ∷ []
+refusal_rest BadKey = codes " key" ++ 10 ∷ []
 
 -- the texts that a line is written of
 pub refusal_parts : (input : List ℕ) (refusal : Refusal)
@@ -39,6 +40,7 @@ refusal_parts input Long = append_assoc (codes "input " ++ input) (codes " long"
 refusal_parts input (BadLine line) =
     append_assoc (codes "input " ++ input ++ codes " line ") (decimal line) (10 ∷ [])
     ∙ append_assoc (codes "input " ++ input) (codes " line ") (decimal line ++ 10 ∷ [])
+refusal_parts input BadKey = append_assoc (codes "input " ++ input) (codes " key") (10 ∷ [])
 
 pub full_parts : (weight limit : ℕ) → full_text weight limit
     ≡ ((codes "full " ++ decimal weight) ++ codes " ") ++ (decimal limit ++ 10 ∷ [])

@@ -12,6 +12,7 @@ use Rattle.commands.specs.Words.Words.{question_of, replays, rounds_in, task_in,
 use Rattle.commands.specs.Words.Words.{task_behind, task_in_two, verifies}
 use Rattle.commands.specs.Words.Words.{ClientTask, ServeTask, client_in, is_client, is_serve}
 use Rattle.commands.specs.Words.Words.{plays_client, serve_in, serves}
+use Rattle.commands.specs.Words.Words.{DiscoverTask, discover_in, discovers, is_discover}
 use Rattle.commands.proofs.OfWords.Tests.{both, chosen, mapped, not_none, some_is}
 
 -- `replay TABLES SCENARIO` and options
@@ -81,6 +82,16 @@ pub record AreClient (task : ClientTask) (words : List (List ℕ)) : Type 0 wher
   pub script_name : is_file_name script ≡ true
   pub task_is : client_in tables script more ≡ Some task
 
+-- `discover TABLES KEY` and an address
+pub record AreDiscover (task : DiscoverTask) (words : List (List ℕ)) : Type 0 where
+  pub tables : List ℕ
+  pub key : List ℕ
+  pub more : List (List ℕ)
+  pub words_are : words ≡ codes "discover" ∷ tables ∷ key ∷ more
+  pub tables_name : is_file_name tables ≡ true
+  pub key_name : is_file_name key ≡ true
+  pub task_is : discover_in tables key more ≡ Some task
+
 abbrev pub HasForm : Task → List (List ℕ) → Type 0
 HasForm (replays tables scenario options) words = AreReplay tables scenario options words
 HasForm (lists_stream capture) words = AreStream capture words
@@ -89,6 +100,7 @@ HasForm (verifies question) words = AreVerify question words
 HasForm (loads rounds) words = AreLoad rounds words
 HasForm (serves task) words = AreServe task words
 HasForm (plays_client task) words = AreClient task words
+HasForm (discovers task) words = AreDiscover task words
 
 text_is : (xs ys : List ℕ) → bytes_eq xs ys ≡ true → xs ≡ ys
 text_is xs ys e = (bytes_eq-Decides xs ys).0 e
@@ -254,6 +266,27 @@ client first second third more task is e =
     } in
     subst (λ (t : Task). HasForm t (first ∷ second ∷ third ∷ more)) m.2 form
 
+discover : (first second third : List ℕ) (more : List (List ℕ)) (task : Task)
+    → is_discover first second third ≡ true
+    → option_map discovers (discover_in second third more) ≡ Some task
+    → HasForm task (first ∷ second ∷ third ∷ more)
+discover first second third more task is e =
+    let m = mapped (discover_in second third more) discovers task e in
+    let h = both (bytes_eq first (codes "discover") && is_file_name second) (is_file_name third) is
+    in
+    let k = both (bytes_eq first (codes "discover")) (is_file_name second) h.0 in
+    let form : AreDiscover m.0 (first ∷ second ∷ third ∷ more) = record {
+      tables = second;
+      key = third;
+      more = more;
+      words_are = ap (λ (v : List ℕ). v ∷ second ∷ third ∷ more)
+          (text_is first (codes "discover") k.0);
+      tables_name = k.1;
+      key_name = h.1;
+      task_is = m.1;
+    } in
+    subst (λ (t : Task). HasForm t (first ∷ second ∷ third ∷ more)) m.2 form
+
 serve : (first second : List ℕ) (more : List (List ℕ)) (task : Task)
     → is_serve first second ≡ true → option_map serves (serve_in second more) ≡ Some task
     → HasForm task (first ∷ second ∷ more)
@@ -273,8 +306,10 @@ three : (first second third : List ℕ) (more : List (List ℕ)) (task : Task)
     → task_in_three first second third more ≡ Some task
     → HasForm task (first ∷ second ∷ third ∷ more)
 three first second third more task e =
+    let fifth_else : Option Task = if is_discover first second third
+    then option_map discovers (discover_in second third more) else None in
     let fourth_else : Option Task = if is_client first second third
-    then option_map plays_client (client_in second third more) else None in
+    then option_map plays_client (client_in second third more) else fifth_else in
     let third_else : Option Task = if is_verify first second third
     then option_map verifies (question_of second third more) else fourth_else in
     let second_else : Option Task =
@@ -289,9 +324,15 @@ three first second third more task e =
                 (option_map verifies (question_of second third more)) fourth_else task k.1) [
                   | inl l ↦ verify first second third more task l.0 l.1
                   | inr l ↦ elim (chosen (is_client first second third)
-                      (option_map plays_client (client_in second third more)) None task l.1) [
+                      (option_map plays_client (client_in second third more)) fifth_else task
+                      l.1) [
                         | inl m ↦ client first second third more task m.0 m.1
-                        | inr m ↦ absurd (not_none task m.1)
+                        | inr m ↦ elim (chosen (is_discover first second third)
+                            (option_map discovers (discover_in second third more)) None task
+                            m.1) [
+                              | inl n ↦ discover first second third more task n.0 n.1
+                              | inr n ↦ absurd (not_none task n.1)
+                            ]
                       ]
                 ]
           ]

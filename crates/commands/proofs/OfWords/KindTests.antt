@@ -17,6 +17,7 @@ use Rattle.commands.specs.Words.Words.{Question, ReplayOptions, Task, are_file_n
 use Rattle.commands.specs.Words.Words.{is_journal_name, limit_in, loads, no_options, options_in}
 use Rattle.commands.specs.Words.Words.{ClientTask, ServeTask, client_in, is_client, is_connect}
 use Rattle.commands.specs.Words.Words.{plays_client, question_of, replays, serves, verifies}
+use Rattle.commands.specs.Words.Words.{DiscoverTask, discover_in, discovers, is_discover}
 
 -- a task that is made of a value, where there is one
 pub kind_of_made : {A : Type 0} (o : Option A) (f : A → Task) (k : CommandKind)
@@ -160,6 +161,22 @@ kind_of_client tables script words =
     ap (λ (b : Bool). then_some b kind.Client) (connect_tested tables script words)
     ∙ kind_of_made (client_in tables script words) plays_client kind.Client (λ x. refl)
 
+pub discover_tested : (tables key : List ℕ) (words : List (List ℕ))
+    → are_connect words ≡ is_some (discover_in tables key words)
+discover_tested tables key [] = refl
+discover_tested tables key (a ∷ []) = refl
+discover_tested tables key (option ∷ word ∷ []) =
+    let task : DiscoverTask = record { tables = tables; key = key; address = word } in
+    connected (is_connect option word) task
+discover_tested tables key (a ∷ b ∷ c ∷ more) = refl
+
+pub kind_of_discover : (tables key : List ℕ) (words : List (List ℕ))
+    → then_some (are_connect words) kind.Discover
+    ≡ option_map kind_of_task (option_map discovers (discover_in tables key words))
+kind_of_discover tables key words =
+    ap (λ (b : Bool). then_some b kind.Discover) (discover_tested tables key words)
+    ∙ kind_of_made (discover_in tables key words) discovers kind.Discover (λ x. refl)
+
 -- the test of what is to be served
 pub kind_of_serve : {A : Type 0} (o : Option A) (f : A → ServeTask) (task : Option ServeTask)
     → option_map f o ≡ task
@@ -171,8 +188,12 @@ kind_of_serve (Some x) f task e = ap (λ (t : Option ServeTask).
 
 module _ (first second third : List ℕ) (more : List (List ℕ)) where
   -- what the words ask for, by what they begin as
+  abbrev by_discover : Bool → Option Task
+  by_discover b = if b then option_map discovers (discover_in second third more) else None
+
   abbrev by_client : Bool → Option Task
-  by_client b = if b then option_map plays_client (client_in second third more) else None
+  by_client b = if b then option_map plays_client (client_in second third more)
+      else by_discover (is_discover first second third)
 
   abbrev by_verify : Bool → Option Task
   by_verify b = if b then option_map verifies (question_of second third more)
@@ -213,12 +234,27 @@ module _ (first second third : List ℕ) (more : List (List ℕ)) where
       ∙ ap (λ (b : Bool). option_map kind_of_task (by_pdu b)) (sym unread)
       ∙ ap (λ (b : Bool). option_map kind_of_task (by_replay b)) (sym other)
 
+  -- where they begin as a listing
+  pub three_discover : is_replay first second third ≡ false
+      → is_decode_pdu first second third ≡ false → is_verify first second third ≡ false
+      → is_client first second third ≡ false → is_discover first second third ≡ true
+      → then_some (are_connect more) kind.Discover
+      ≡ option_map kind_of_task (task_in_three first second third more)
+  three_discover other unread unchecked apart is = kind_of_discover second third more
+      ∙ ap (λ (b : Bool). option_map kind_of_task (by_discover b)) (sym is)
+      ∙ ap (λ (b : Bool). option_map kind_of_task (by_client b)) (sym apart)
+      ∙ ap (λ (b : Bool). option_map kind_of_task (by_verify b)) (sym unchecked)
+      ∙ ap (λ (b : Bool). option_map kind_of_task (by_pdu b)) (sym unread)
+      ∙ ap (λ (b : Bool). option_map kind_of_task (by_replay b)) (sym other)
+
   -- where they begin as none
   pub three_none : is_replay first second third ≡ false → is_decode_pdu first second third ≡ false
       → is_verify first second third ≡ false → is_client first second third ≡ false
+      → is_discover first second third ≡ false
       → None ≡ option_map kind_of_task (task_in_three first second third more)
-  three_none other unread unchecked apart =
-      ap (λ (b : Bool). option_map kind_of_task (by_client b)) (sym apart)
+  three_none other unread unchecked apart unlisted =
+      ap (λ (b : Bool). option_map kind_of_task (by_discover b)) (sym unlisted)
+      ∙ ap (λ (b : Bool). option_map kind_of_task (by_client b)) (sym apart)
       ∙ ap (λ (b : Bool). option_map kind_of_task (by_verify b)) (sym unchecked)
       ∙ ap (λ (b : Bool). option_map kind_of_task (by_pdu b)) (sym unread)
       ∙ ap (λ (b : Bool). option_map kind_of_task (by_replay b)) (sym other)

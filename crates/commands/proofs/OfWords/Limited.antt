@@ -5,7 +5,7 @@ use Rattle.commands.specs.declared.load.scenario.TheConstants.{MOST_ROUNDS}
 use Rattle.commands.specs.declared.words.words.Command.{Command}
 use Rattle.commands.specs.declared.words.words.Command.TheVariants.{Replay, Decode, DecodePdu}
 use Rattle.commands.specs.declared.words.words.Command.TheVariants.{Verify}
-use Rattle.commands.specs.declared.words.words.Command.TheVariants.{Load, Serve, Client}
+use Rattle.commands.specs.declared.words.words.Command.TheVariants.{Load, Serve, Client, Discover}
 use Rattle.commands.specs.Words.Words.{IsLimited, loads, options_seen, replays, task_in, task_of}
 use Rattle.commands.specs.Words.Words.{serve_seen, serves}
 use Rattle.commands.proofs.OfWords.Forms.{has_form}
@@ -27,6 +27,7 @@ command_limited (Serve served) words e =
     let form = has_form words (serves (serve_seen served)) e in
     served_lawful form.tables form.more (serve_seen served) form.task_is
 command_limited (Client played) words e = tt
+command_limited (Discover asked) words e = tt
 
 pub asked_limited : (command : Option Command) (words : List (List ℕ))
     → option_map task_of command ≡ task_in words → IfSome command IsLimited

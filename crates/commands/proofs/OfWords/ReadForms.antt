@@ -10,17 +10,20 @@ use Rattle.commands.specs.Words.Words.{Question, ReplayOptions, Task, decodes_pd
 use Rattle.commands.specs.Words.Words.{loads, replays}
 use Rattle.commands.specs.Words.Words.{rounds_in, task_in, verifies}
 use Rattle.commands.specs.Words.Words.{ClientTask, ServeTask, plays_client, serves}
+use Rattle.commands.specs.Words.Words.{DiscoverTask, discovers}
 use Rattle.commands.specs.Words.Kinds.{kind_in, kind_of_task}
 use Rattle.commands.specs.Words.Matched.{client_app, client_matched, decode_app, load_app}
 use Rattle.commands.specs.Words.Matched.{load_matched, serve_app, serve_matched}
+use Rattle.commands.specs.Words.Matched.{discover_app, discover_matched}
 use Rattle.commands.specs.Words.Matched.{replay_app, replay_matched, verify_app, verify_matched}
 use Rattle.commands.proofs.OfWords.Tests.{mapped, not_none}
 use Rattle.commands.proofs.OfWords.Forms.{AreClient, AreLoad, ArePdu, AreReplay, AreServe, AreStream}
-use Rattle.commands.proofs.OfWords.Forms.{AreVerify, HasForm, has_form}
+use Rattle.commands.proofs.OfWords.Forms.{AreDiscover, AreVerify, HasForm, has_form}
 use Rattle.commands.proofs.OfWords.OptionWords.{counted}
 use Rattle.commands.proofs.OfWords.PlainWords.{plain_name, plain_number}
 use Rattle.commands.proofs.OfWords.DecodeRead.{pdu_seen, pdu_taken, stream_seen, stream_taken}
 use Rattle.commands.proofs.OfWords.ClientRead.{client_read}
+use Rattle.commands.proofs.OfWords.DiscoverRead.{discover_read}
 use Rattle.commands.proofs.OfWords.LoadRead.{load_first, load_taken}
 use Rattle.commands.proofs.OfWords.ReplayRead.{replay_read}
 use Rattle.commands.proofs.OfWords.ServeRead.{serve_read}
@@ -150,6 +153,21 @@ client_form task words form =
     subst (λ (v : List (List ℕ)). ClientReads v (Some (plays_client task))) (sym form.words_are)
     (read.takes_them, ap (option_map plays_client) read.names)
 
+-- ---- `discover`
+
+abbrev DiscoverReads : List (List ℕ) → Option Task → Type 0
+DiscoverReads words task =
+    (takes discover_app words ≡ true) × (discover_matched (matches_of discover_app words) ≡ task)
+
+discover_form : (task : DiscoverTask) (words : List (List ℕ)) → AreDiscover task words
+    → DiscoverReads words (Some (discovers task))
+discover_form task words form =
+    let read = discover_read form.tables form.key form.more task
+    (plain_name form.tables form.tables_name) (plain_name form.key form.key_name)
+    form.task_is in
+    subst (λ (v : List (List ℕ)). DiscoverReads v (Some (discovers task))) (sym form.words_are)
+    (read.takes_them, ap (option_map discovers) read.names)
+
 -- ---- by the kind of the words
 
 -- the task of words of a kind
@@ -172,6 +190,7 @@ load_by words (verifies question) e form = absurd cc
 load_by words (loads rounds) e form = load_form rounds words form
 load_by words (serves task) e form = absurd cc
 load_by words (plays_client task) e form = absurd cc
+load_by words (discovers task) e form = absurd cc
 
 decode_by : (words : List (List ℕ)) (task : Task) → kind_of_task task ≡ kind.Decode
     → HasForm task words → DecodeReads words (Some task)
@@ -182,6 +201,7 @@ decode_by words (verifies question) e form = absurd cc
 decode_by words (loads rounds) e form = absurd cc
 decode_by words (serves task) e form = absurd cc
 decode_by words (plays_client task) e form = absurd cc
+decode_by words (discovers task) e form = absurd cc
 
 verify_by : (words : List (List ℕ)) (task : Task) → kind_of_task task ≡ kind.Verify
     → HasForm task words → VerifyReads words (Some task)
@@ -192,6 +212,7 @@ verify_by words (verifies question) e form = verify_form question words form
 verify_by words (loads rounds) e form = absurd cc
 verify_by words (serves task) e form = absurd cc
 verify_by words (plays_client task) e form = absurd cc
+verify_by words (discovers task) e form = absurd cc
 
 replay_by : (words : List (List ℕ)) (task : Task) → kind_of_task task ≡ kind.Replay
     → HasForm task words → ReplayReads words (Some task)
@@ -203,6 +224,7 @@ replay_by words (verifies question) e form = absurd cc
 replay_by words (loads rounds) e form = absurd cc
 replay_by words (serves task) e form = absurd cc
 replay_by words (plays_client task) e form = absurd cc
+replay_by words (discovers task) e form = absurd cc
 
 serve_by : (words : List (List ℕ)) (task : Task) → kind_of_task task ≡ kind.Serve
     → HasForm task words → ServeReads words (Some task)
@@ -213,6 +235,7 @@ serve_by words (verifies question) e form = absurd cc
 serve_by words (loads rounds) e form = absurd cc
 serve_by words (serves task) e form = serve_form task words form
 serve_by words (plays_client task) e form = absurd cc
+serve_by words (discovers task) e form = absurd cc
 
 client_by : (words : List (List ℕ)) (task : Task) → kind_of_task task ≡ kind.Client
     → HasForm task words → ClientReads words (Some task)
@@ -223,6 +246,18 @@ client_by words (verifies question) e form = absurd cc
 client_by words (loads rounds) e form = absurd cc
 client_by words (serves task) e form = absurd cc
 client_by words (plays_client task) e form = client_form task words form
+client_by words (discovers task) e form = absurd cc
+
+discover_by : (words : List (List ℕ)) (task : Task) → kind_of_task task ≡ kind.Discover
+    → HasForm task words → DiscoverReads words (Some task)
+discover_by words (replays tables scenario options) e form = absurd cc
+discover_by words (lists_stream capture) e form = absurd cc
+discover_by words (decodes_pdu capture) e form = absurd cc
+discover_by words (verifies question) e form = absurd cc
+discover_by words (loads rounds) e form = absurd cc
+discover_by words (serves task) e form = absurd cc
+discover_by words (plays_client task) e form = absurd cc
+discover_by words (discovers task) e form = discover_form task words form
 
 pub load_reads : (words : List (List ℕ)) → kind_in words ≡ Some kind.Load
     → LoadReads words (task_in words)
@@ -265,6 +300,13 @@ client_reads words e =
     let h = has_task words kind.Client e in
     subst (ClientReads words) (sym h.asked)
     (client_by words h.task h.of_kind (has_form words h.task h.asked))
+
+pub discover_reads : (words : List (List ℕ)) → kind_in words ≡ Some kind.Discover
+    → DiscoverReads words (task_in words)
+discover_reads words e =
+    let h = has_task words kind.Discover e in
+    subst (DiscoverReads words) (sym h.asked)
+    (discover_by words h.task h.of_kind (has_form words h.task h.asked))
 
 -- words of a kind ask for a task
 pub kind_asks : (words : List (List ℕ)) (k : CommandKind) → kind_in words ≡ Some k

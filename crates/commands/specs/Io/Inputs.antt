@@ -7,7 +7,7 @@ use Rattle.outside.specs.declared.text.TextEnd.TheVariants as text_ends
 use Rattle.outside.specs.Source.{SourceTold}
 use Rattle.outside.specs.Text.{TextResult, ReadsText}
 use Rattle.outside.specs.Names.Outside.{OutsideTold, Asks, Acts}
-use Rattle.commands.specs.declared.io.input.Refusal.TheVariants.{Long, BadLine}
+use Rattle.commands.specs.declared.io.input.Refusal.TheVariants.{Long, BadLine, BadKey}
 use Rattle.commands.specs.declared.io.input.InputEnd.{InputEnd}
 use Rattle.commands.specs.declared.io.input.InputEnd.TheVariants.{Refused, Outside, Memory}
 use Rattle.commands.specs.Io.OutsideUse.{Uses}
@@ -35,11 +35,13 @@ value_as meant (Err end) = Err end
 abbrev pub IsInput : ℕ → Result (Vec ℕ Global) InputEnd → Text → Type 0
 IsInput limit (Ok text) untold = length text.items ≤ limit
 IsInput limit (Err (Refused (BadLine line))) untold = ⊥
+IsInput limit (Err (Refused BadKey)) untold = ⊥
 IsInput limit (Err end) untold = Unit {0}
 IsInput limit result missing = result ≡ Err Outside
 IsInput limit (Ok text) (told octets) = (octets ≡ text.items) × (length octets ≤ limit)
 IsInput limit (Err (Refused Long)) (told octets) = limit < length octets
 IsInput limit (Err (Refused (BadLine line))) (told octets) = ⊥
+IsInput limit (Err (Refused BadKey)) (told octets) = ⊥
 IsInput limit (Err Outside) (told octets) = Unit {0}
 IsInput limit (Err Memory) (told octets) = Unit {0}
 

@@ -6,7 +6,7 @@ use Rattle.outside.specs.Names.Outside.{OutsideTold}
 use Rattle.commands.specs.declared.io.status.Status.{Status}
 use Rattle.commands.specs.declared.io.status.Status.TheVariants.{Input, Outside}
 use Rattle.commands.specs.declared.io.input.Refusal.{Refusal}
-use Rattle.commands.specs.declared.io.input.Refusal.TheVariants.{Long, BadLine}
+use Rattle.commands.specs.declared.io.input.Refusal.TheVariants.{Long, BadLine, BadKey}
 use Rattle.commands.specs.declared.io.input.InputEnd.{InputEnd}
 use Rattle.commands.specs.declared.io.input.InputEnd.TheVariants.{Refused}
 use Rattle.commands.specs.declared.io.input.InputEnd.TheVariants as ends
@@ -110,6 +110,7 @@ abbrev pub IsSpelled : {V : Type 0} → Result V InputEnd → Result V ℕ → T
 IsSpelled (Ok value) spelled = spelled ≡ Ok value
 IsSpelled (Err (Refused Long)) spelled = ⊥
 IsSpelled (Err (Refused (BadLine line))) spelled = spelled ≡ Err line
+IsSpelled (Err (Refused BadKey)) spelled = ⊥
 IsSpelled (Err ends.Outside) spelled = ⊥
 IsSpelled (Err ends.Memory) spelled = Unit {0}
 

@@ -5,7 +5,7 @@ use Rattle.outside.specs.Names.Outside.{NameEntry, OutsideTold, lent, there}
 use Rattle.outside.specs.Names.Outside.{untold as untold_name, missing as missing_name}
 use Rattle.commands.specs.declared.io.status.Status.{Status}
 use Rattle.commands.specs.declared.io.input.Refusal.{Refusal}
-use Rattle.commands.specs.declared.io.input.Refusal.TheVariants.{Long, BadLine}
+use Rattle.commands.specs.declared.io.input.Refusal.TheVariants.{Long, BadLine, BadKey}
 
 -- a status, the octets that standard output takes, and those that each named file takes
 pub record Said : Type 0 where
@@ -26,6 +26,7 @@ abbrev pub refusal_text : List ℕ → Refusal → List ℕ
 refusal_text input Long = codes "input " ++ input ++ codes " long" ++ 10 ∷ []
 refusal_text input (BadLine line) =
     codes "input " ++ input ++ codes " line " ++ decimal line ++ 10 ∷ []
+refusal_text input BadKey = codes "input " ++ input ++ codes " key" ++ 10 ∷ []
 
 -- the line of a history that would weigh more than its limit
 abbrev pub full_text : ℕ → ℕ → List ℕ

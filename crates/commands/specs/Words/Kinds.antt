@@ -7,7 +7,7 @@ use Rattle.commands.specs.declared.words.words.ServerOptions.{ServerOptions}
 use Rattle.plain_text.specs.Numbers.{number_up_to}
 use Rattle.commands.specs.Words.Words.{Task, task_in, replays, lists_stream, decodes_pdu, verifies}
 use Rattle.commands.specs.Words.Words.{are_file_names, is_journal_name, limit_in, loads, serves}
-use Rattle.commands.specs.Words.Words.{ServeOptions, is_connect, plays_client}
+use Rattle.commands.specs.Words.Words.{ServeOptions, discovers, is_connect, plays_client}
 
 -- the command that asks for it
 abbrev pub kind_of_task : Task → CommandKind
@@ -18,6 +18,7 @@ kind_of_task (verifies question) = kind.Verify
 kind_of_task (loads rounds) = kind.Load
 kind_of_task (serves task) = kind.Serve
 kind_of_task (plays_client task) = kind.Client
+kind_of_task (discovers task) = kind.Discover
 
 -- `--limit N`
 abbrev pub is_limit : List ℕ → List ℕ → Bool

@@ -6,7 +6,7 @@ use Rattle.clap.specs.Words.{App, Row, Rule, Text, first_of, new_app, new_rule, 
 use Rattle.plain_text.specs.Numbers.{number_up_to}
 use Rattle.commands.specs.Words.Words.{Question, ReplayOptions, Task, limit_in, loads, replays}
 use Rattle.commands.specs.Words.Words.{ClientTask, ServeTask, plays_client, rounds_in, serves}
-use Rattle.commands.specs.Words.Words.{verifies}
+use Rattle.commands.specs.Words.Words.{DiscoverTask, discovers, verifies}
 
 -- a word at its place, which must be there
 abbrev pub positional_rule : Text → Rule
@@ -65,6 +65,12 @@ abbrev pub client_app : App
 client_app = with_option (codes "connect")
     (with_positional (codes "SCRIPT")
     (with_positional (codes "TABLES") (new_app (codes "client"))))
+
+-- `discover TABLES KEY`, with `--connect ADDRESS` behind it
+abbrev pub discover_app : App
+discover_app = with_option (codes "connect")
+    (with_positional (codes "KEY")
+    (with_positional (codes "TABLES") (new_app (codes "discover"))))
 
 -- the limit that a word gives, where there is one
 abbrev pub limit_matched : Option Text → Option (Option ℕ)
@@ -130,3 +136,13 @@ played_matched rows = option_and_then (λ tables. option_and_then (λ script.
 
 abbrev pub client_matched : List Row → Option Task
 client_matched rows = option_map plays_client (played_matched rows)
+
+-- what a node is to be asked for
+abbrev pub asked_matched : List Row → Option DiscoverTask
+asked_matched rows = option_and_then (λ tables. option_and_then (λ key.
+    option_map (λ address. record { tables = tables; key = key; address = address })
+    (first_of (codes "connect") rows)) (first_of (codes "KEY") rows))
+    (first_of (codes "TABLES") rows)
+
+abbrev pub discover_matched : List Row → Option Task
+discover_matched rows = option_map discovers (asked_matched rows)

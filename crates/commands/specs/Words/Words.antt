@@ -10,10 +10,11 @@ use Rattle.commands.specs.declared.words.words.Options.{Options}
 use Rattle.commands.specs.declared.words.words.Question.{Question as Questions}
 use Rattle.commands.specs.declared.words.words.ServeWords.{ServeWords}
 use Rattle.commands.specs.declared.words.words.ClientWords.{ClientWords}
+use Rattle.commands.specs.declared.words.words.DiscoverWords.{DiscoverWords}
 use Rattle.commands.specs.declared.words.words.Command.{Command}
 use Rattle.commands.specs.declared.words.words.Command.TheVariants.{Replay, Decode, DecodePdu}
 use Rattle.commands.specs.declared.words.words.Command.TheVariants.{Verify}
-use Rattle.commands.specs.declared.words.words.Command.TheVariants.{Load, Serve, Client}
+use Rattle.commands.specs.declared.words.words.Command.TheVariants.{Load, Serve, Client, Discover}
 
 -- the octets that a history may weigh, and the file for its journal, where they are given
 pub record ReplayOptions : Type 0 where
@@ -84,6 +85,20 @@ client_seen words = record {
   address = words.address.now;
 }
 
+-- the tables of a calling end that asks a node what it offers, the key of the peer in whose place it
+-- calls, and the address of the node that it connects to
+pub record DiscoverTask : Type 0 where
+  pub tables : List ℕ
+  pub key : List ℕ
+  pub address : List ℕ
+
+abbrev pub discover_seen : DiscoverWords → DiscoverTask
+discover_seen words = record {
+  tables = words.tables.now;
+  key = words.key.now;
+  address = words.address.now;
+}
+
 -- what words ask for
 pub data Task : Type 0 where
   -- the scenario under the second name is played over the tables under the first, as options say
@@ -100,6 +115,8 @@ pub data Task : Type 0 where
   serves : ServeTask → Task
   -- the script of a client is played over a connection to another node
   plays_client : ClientTask → Task
+  -- what another node offers is listed, and held against a peer's table
+  discovers : DiscoverTask → Task
 
 -- what a command asks for
 abbrev pub task_of : Command → Task
@@ -111,6 +128,7 @@ task_of (Verify question) = verifies (question_seen question)
 task_of (Load rounds) = loads rounds
 task_of (Serve words) = serves (serve_seen words)
 task_of (Client words) = plays_client (client_seen words)
+task_of (Discover words) = discovers (discover_seen words)
 
 -- a limit that a history may have, and a journal that isn't standard output
 pub record AreOptions (options : ReplayOptions) : Type 0 where
@@ -130,6 +148,7 @@ IsLimited (Verify question) = Unit {0}
 IsLimited (Load rounds) = rounds ≤ MOST_ROUNDS
 IsLimited (Serve words) = IsServed (serve_seen words)
 IsLimited (Client words) = Unit {0}
+IsLimited (Discover words) = Unit {0}
 
 -- a name of a file: not empty, and beginning with `-` only where it is `-`, which is standard input
 abbrev pub is_file_name : List ℕ → Bool
@@ -303,8 +322,21 @@ client_in tables script (option ∷ word ∷ []) =
     then Some (record { tables = tables; script = script; address = word }) else None
 client_in tables script words = None
 
+-- `discover TABLES KEY`: a key is any word that may name a file
+abbrev pub is_discover : List ℕ → List ℕ → List ℕ → Bool
+is_discover verb tables key =
+    bytes_eq verb (codes "discover") && is_file_name tables && is_file_name key
+
+-- `--connect ADDRESS`, and nothing behind it
+abbrev pub discover_in : List ℕ → List ℕ → List (List ℕ) → Option DiscoverTask
+discover_in tables key (option ∷ word ∷ []) =
+    if is_connect option word
+    then Some (record { tables = tables; key = key; address = word }) else None
+discover_in tables key words = None
+
 -- `replay TABLES SCENARIO` and its options, `decode --pdu IN`,
--- `verify TABLES JOURNAL KEY ORDINAL IN OUT`, or `client TABLES SCRIPT --connect ADDRESS`
+-- `verify TABLES JOURNAL KEY ORDINAL IN OUT`, `client TABLES SCRIPT --connect ADDRESS`, or
+-- `discover TABLES KEY --connect ADDRESS`
 abbrev pub task_in_three : List ℕ → List ℕ → List ℕ → List (List ℕ) → Option Task
 task_in_three first second third more =
     if is_replay first second third then option_map (replays second third) (options_in more)
@@ -312,7 +344,9 @@ task_in_three first second third more =
     else (if is_verify first second third
     then option_map verifies (question_of second third more)
     else (if is_client first second third
-    then option_map plays_client (client_in second third more) else None)))
+    then option_map plays_client (client_in second third more)
+    else (if is_discover first second third
+    then option_map discovers (discover_in second third more) else None))))
 
 -- one of the above
 abbrev pub task_behind : List ℕ → List ℕ → List (List ℕ) → Option Task

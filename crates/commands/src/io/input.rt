@@ -27,6 +27,8 @@ pub enum Refusal {
     Long,
     /// The first bad line of the input. Lines count from 1.
     BadLine(u64),
+    /// No peer of the input has the key that is named.
+    BadKey,
 }
 
 /// Why an input isn't there.

@@ -58,6 +58,7 @@ fn write_refusal<K: Sink>(sink: &mut K, input: &str, refusal: Refusal) -> Result
     match refusal {
         Refusal::Long => write_all(sink, b" long\n"),
         Refusal::BadLine(line) => write_number(sink, b" line ", line, b"\n"),
+        Refusal::BadKey => write_all(sink, b" key\n"),
     }
 }
 

@@ -18,12 +18,13 @@ pub enum Status {
     /// 5: an event was refused since the history would have weighed more than its limit; the last
     /// line printed has both numbers.
     Full,
-    /// 6: a check found a difference; the line printed says which.
+    /// 6: a check found a difference, or what a node offers differs from a table; the last lines
+    /// printed say how.
     Differs,
     /// 7: memory ran out.
     Memory,
-    /// 8: a client has ended before its script was played, by what its peer gave; the last line
-    /// printed says how.
+    /// 8: a client has ended before its script was played, or a listing before all was listed, by
+    /// what its peer gave; the last line printed says how.
     Peer,
 }
 

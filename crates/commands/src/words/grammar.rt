@@ -127,6 +127,13 @@ fn is_client(verb: &str, tables: &str, script: &str) -> bool
     verb == "client" && is_name(tables) && is_name(script)
 }
 
+// Whether words are `discover TABLES KEY`.
+fn is_discover(verb: &str, tables: &str, key: &str) -> bool
+    ensures { result ≡ own.is_discover verb.now tables.now key.now }
+{
+    verb == "discover" && is_name(tables) && is_name(key)
+}
+
 // Whether a word may stand as an address: as the name of a file may.
 fn is_address(word: &str) -> bool
     ensures { result ≡ own.is_address word.now }
@@ -290,6 +297,9 @@ fn kind_of_three(first: &str, second: &str, third: &str, more: &[String]) -> Opt
     }
     if is_client(first, second, third) {
         return are_connect(more).then_some(CommandKind::Client);
+    }
+    if is_discover(first, second, third) {
+        return are_connect(more).then_some(CommandKind::Discover);
     }
     None
 }

@@ -6,11 +6,13 @@ ghost use Rattle.clap.specs.Words.{rows_of, takes};
 ghost use Rattle.clap.specs.declared.error.kind.ErrorKind.TheVariants.{OutOfMemory};
 ghost use Rattle.commands.specs.Words.Words.{decodes_pdu, lists_stream, options_seen, question_seen};
 ghost use Rattle.commands.specs.Words.Words.{task_in, task_of, serve_seen, client_seen};
+ghost use Rattle.commands.specs.Words.Words.{discover_seen};
 ghost use Rattle.commands.specs.Words.Kinds.{kind_in};
 ghost use Rattle.commands.specs.Words.Matched as own;
 
 use crate::words::words::{
-    ClientWords, Command, CommandKind, Options, Question, ServeWords, read_limit, read_rounds,
+    ClientWords, Command, CommandKind, DiscoverWords, Options, Question, ServeWords, read_limit,
+    read_rounds,
 };
 use clap::{Arg, ArgAction, ArgMatches};
 use plain_text::read_number;
@@ -102,6 +104,16 @@ fn client_command<'a>(alloc: Global) -> Result<clap::Command<'a>, AllocError>
     let command = clap::Command::new(alloc, "client");
     let command = with_positional(alloc, "TABLES", command)?;
     let command = with_positional(alloc, "SCRIPT", command)?;
+    with_option(alloc, "connect", command)
+}
+
+// `discover TABLES KEY`, with `--connect ADDRESS` behind it.
+fn discover_command<'a>(alloc: Global) -> Result<clap::Command<'a>, AllocError>
+    ensures { IfOk result (λ command. app_of command ≡ own.discover_app) }
+{
+    let command = clap::Command::new(alloc, "discover");
+    let command = with_positional(alloc, "TABLES", command)?;
+    let command = with_positional(alloc, "KEY", command)?;
     with_option(alloc, "connect", command)
 }
 
@@ -281,6 +293,29 @@ fn client_of<'a>(matches: &ArgMatches<'a>) -> Option<Command<'a>>
     Some(Command::Client { words })
 }
 
+// What the matches of `discover` name.
+fn asked_of<'a>(matches: &ArgMatches<'a>) -> Option<DiscoverWords<'a>>
+    ensures { option_map discover_seen result
+        ≡ own.asked_matched (rows_of (found_of matches.now)) }
+{
+    let tables = word_of(matches, "TABLES")?;
+    let key = word_of(matches, "KEY")?;
+    let address = word_of(matches, "connect")?;
+    Some(DiscoverWords {
+        tables,
+        key,
+        address,
+    })
+}
+
+// What the matches of `discover` ask for.
+fn discover_of<'a>(matches: &ArgMatches<'a>) -> Option<Command<'a>>
+    ensures { option_map task_of result ≡ own.discover_matched (rows_of (found_of matches.now)) }
+{
+    let words = asked_of(matches)?;
+    Some(Command::Discover { words })
+}
+
 /// What words of `replay` ask for.
 pub(crate) fn read_replay<'a>(
     alloc: Global,
@@ -363,4 +398,18 @@ pub(crate) fn read_client<'a>(
     let command = client_command(alloc)?;
     let matches = matches_in(command, words)?;
     Ok(client_of(&matches))
+}
+
+/// What words of `discover` ask for.
+pub(crate) fn read_discover<'a>(
+    alloc: Global,
+    words: &'a [String],
+) -> Result<Option<Command<'a>>, AllocError>
+    requires { kind_in (map string_bytes words.now) ≡ Some CommandKind.Discover }
+    ensures { IfOk result (λ command. option_map task_of command
+        ≡ task_in (map string_bytes words.entry.now)) }
+{
+    let command = discover_command(alloc)?;
+    let matches = matches_in(command, words)?;
+    Ok(discover_of(&matches))
 }

@@ -6,7 +6,7 @@ ghost use Rattle.commands.specs.Words.Words.{task_of, task_in, IsLimited};
 
 use crate::words::grammar::kind_of_words;
 use crate::words::matched::{
-    read_client, read_decode, read_load, read_replay, read_serve, read_verify,
+    read_client, read_decode, read_discover, read_load, read_replay, read_serve, read_verify,
 };
 use crate::words::words::{Command, CommandKind};
 use std::alloc::{AllocError, Global};
@@ -47,5 +47,6 @@ fn read_of_kind<'a>(
         CommandKind::Load => read_load(alloc, words),
         CommandKind::Serve => read_serve(alloc, words),
         CommandKind::Client => read_client(alloc, words),
+        CommandKind::Discover => read_discover(alloc, words),
     }
 }

@@ -85,6 +85,17 @@ pub struct ClientWords<'a> {
     pub address: &'a str,
 }
 
+/// What a node is to be asked for.
+#[derive(Clone, Copy)]
+pub struct DiscoverWords<'a> {
+    /// The file of the tables.
+    pub tables: &'a str,
+    /// The key of the peer in whose place the node is asked.
+    pub key: &'a str,
+    /// The address of the node to connect to.
+    pub address: &'a str,
+}
+
 /// The options of a server that were read so far.
 #[derive(Clone, Copy)]
 pub(crate) struct ServerOptions<'a> {
@@ -102,6 +113,7 @@ pub(crate) enum CommandKind {
     Load,
     Serve,
     Client,
+    Discover,
 }
 
 /// What words ask for.
@@ -139,6 +151,11 @@ pub enum Command<'a> {
     /// node.
     Client {
         words: ClientWords<'a>,
+    },
+    /// `discover TABLES KEY --connect ADDRESS`: what another node offers is listed, and held against
+    /// the table of the peer with this key.
+    Discover {
+        words: DiscoverWords<'a>,
     },
 }
 

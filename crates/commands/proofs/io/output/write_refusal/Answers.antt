@@ -3,7 +3,7 @@ use Rattle.std.specs.Prelude.{codes}
 use Rattle.std.proofs.lemmas.Result.{err_from_is_err_and}
 use Rattle.outside.specs.Sink.{WritesAll, AppendsAll, AppendsPart}
 use Rattle.outside.proofs.Writing.{AppendsPart-front, WritesAll-then}
-use Rattle.commands.specs.declared.io.input.Refusal.TheVariants.{Long, BadLine}
+use Rattle.commands.specs.declared.io.input.Refusal.TheVariants.{Long, BadLine, BadKey}
 use Rattle.commands.proofs.OfIo.Printing.{refusal_rest, refusal_parts}
 use Rattle.commands.proofs.io.output.write_refusal.Goals as goal
 
@@ -44,3 +44,16 @@ returns-in-BadLine g c =
     (subst (λ (i : List ℕ). AppendsAll old mid (codes "input " ++ i))
     c.as_bytes.ensures.value c.in_ok-write_both.ensures)
     c.write_number.ensures))
+
+pub returns-in-BadKey : goal.returns-in-BadKey
+returns-in-BadKey g c =
+    let old = g.K.Sink.told c.args.sink.now in
+    let mid = g.K.Sink.told c.write_both.new.sink in
+    let now = g.K.Sink.told c.write_all-in-BadKey.new.sink in
+    rw c.in-BadKey.is (subst (λ os. WritesAll old now os c.write_all-in-BadKey.result)
+    (sym (refusal_parts c.args.input.now BadKey))
+    (WritesAll-then old mid now (codes "input " ++ c.args.input.now) (refusal_rest BadKey)
+    c.write_all-in-BadKey.result
+    (subst (λ (i : List ℕ). AppendsAll old mid (codes "input " ++ i))
+    c.as_bytes.ensures.value c.in_ok-write_both.ensures)
+    c.write_all-in-BadKey.ensures))
