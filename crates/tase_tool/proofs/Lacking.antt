@@ -5,7 +5,7 @@ use Rattle.std.specs.Prelude.{Result, Ok, Err, Vec, IsOk, IsErr, codes}
 use Rattle.std.specs.declared.alloc.AllocError.{AllocError}
 use Rattle.std.specs.declared.alloc.Global.{Global}
 use Rattle.outside.specs.Names.Outside.{OutsideTold}
-use Rattle.bilateral.specs.Rows.{CentreRows}
+use Rattle.bilateral.specs.Rows.{CentreRows, place_of_peer}
 use Rattle.sbo_device.specs.declared.key.Key.{Key}
 use Rattle.tase_views.specs.History.{Past}
 use Rattle.tase_verify.specs.declared.association.answered.AnsweredEvent.{AnsweredEvent}
@@ -21,14 +21,17 @@ use Rattle.commands.specs.Io.Plans.{IsValue, ReadsValue}
 use Rattle.commands.specs.Files.Tables.{tables_in}
 use Rattle.commands.specs.Words.Words.{ClientTask, Task, replays, lists_stream, decodes_pdu}
 use Rattle.commands.specs.Words.Words.{verifies, loads, serves, plays_client, client_seen}
+use Rattle.commands.specs.Words.Words.{DiscoverTask, discovers, discover_seen}
 use Rattle.tase_tool.specs.declared.running.Waiting.{Waiting}
-use Rattle.tase_tool.specs.declared.running.Waiting.TheVariants.{Serve, Client}
+use Rattle.tase_tool.specs.declared.running.Waiting.TheVariants.{Serve, Client, Discover}
 use Rattle.tase_tool.specs.Client.Playing.{GoesBehindScript, GoesBehindTables, PlaysScript}
 use Rattle.tase_tool.specs.Client.Playing.{PlaysAtNode}
+use Rattle.tase_tool.specs.Discover.Discovering.{ListsAtNode, ListsPeer, ListsByKey, ListsBehind}
 use Rattle.tase_tool.specs.Verifying.{AreAnswers}
-use Rattle.tase_tool.specs.Running.{RunsTask, RunsClient, waits_for}
+use Rattle.tase_tool.specs.Running.{RunsTask, RunsClient, RunsDiscover, waits_for}
 use Rattle.tase_tool.specs.Lacking.{LacksBehind, LacksText, LacksRead, LacksSound, LacksOver}
 use Rattle.tase_tool.specs.Lacking.{LacksFrom, LacksPlay, LacksScript, LacksClient, LacksFor}
+use Rattle.tase_tool.specs.Lacking.{LacksListing, LacksDiscover}
 
 -- ---- a command without an input
 
@@ -215,6 +218,45 @@ client_lacks task before after status (inl ran) lack =
     ran.tables (tables_lack task ran.read ran.mid after status ran.goes lack))
 client_lacks task before after status (inr idle) lack = inl idle.1
 
+-- ---- a listing
+
+peer_lacks : (task : DiscoverTask) (rows : CentreRows) (peer : ℕ) (before after : OutsideTold)
+    (status : Status) → place_of_peer rows task.key ≡ Some peer
+    → ListsPeer task rows peer before after status
+    → status ≡ statuses.Memory → LacksListing task rows before after
+peer_lacks task rows peer before after status key (inl (inl lists)) lack =
+    (peer, key, inr (subst (λ (s : Status). ListsAtNode task rows peer before after s) lack lists))
+peer_lacks task rows peer before after status key (inl (inr unreached)) lack =
+    absurd (refused_told status (inr unreached.answers) lack)
+peer_lacks task rows peer before after status key (inr lacks) lack = (peer, key, inl lacks.1)
+
+key_lacks : (task : DiscoverTask) (rows : CentreRows) (found : Option ℕ)
+    (before after : OutsideTold) (status : Status) → place_of_peer rows task.key ≡ found
+    → ListsByKey task rows found before after status
+    → status ≡ statuses.Memory → LacksListing task rows before after
+key_lacks task rows None before after status key ends lack =
+    absurd (refused_told status ends.1 lack)
+key_lacks task rows (Some peer) before after status key lists lack =
+    peer_lacks task rows peer before after status key lists lack
+
+read_lacks : (task : DiscoverTask) (read : Result CentreRows InputEnd)
+    (before after : OutsideTold) (status : Status)
+    → ListsBehind task read before after status → status ≡ statuses.Memory
+    → LacksBehind (LacksListing task) read before after
+read_lacks task (Ok rows) before after status goes lack =
+    key_lacks task rows (place_of_peer rows task.key) before after status refl goes lack
+read_lacks task (Err end) before after status goes lack =
+    lacks_unread (LacksListing task) (codes "tables") end before after status goes lack
+
+discover_lacks : (task : DiscoverTask) (before after : OutsideTold) (status : Status)
+    → RunsDiscover task before after status → status ≡ statuses.Memory
+    → LacksDiscover task before after
+discover_lacks task before after status (inl ran) lack =
+    inr
+    (lacks_from tables_in (LacksListing task) task.tables TEXT_LIMIT before ran.mid after ran.read
+    ran.tables (read_lacks task ran.read ran.mid after status ran.goes lack))
+discover_lacks task before after status (inr idle) lack = inl idle.1
+
 -- ---- any command
 
 -- nothing was done
@@ -227,6 +269,7 @@ lacks_idle (Some (decodes_pdu capture)) before = inl refl
 lacks_idle (Some (loads rounds)) before = tt
 lacks_idle (Some (serves task)) before = tt
 lacks_idle (Some (plays_client task)) before = inl refl
+lacks_idle (Some (discovers task)) before = inl refl
 
 -- a command that waits
 pub waits_lack : (waiting : Waiting) (before after : OutsideTold) (refused refused_after : ℕ)
@@ -236,3 +279,5 @@ pub waits_lack : (waiting : Waiting) (before after : OutsideTold) (refused refus
 waits_lack (Serve words) before after refused refused_after status runs lack = tt
 waits_lack (Client words) before after refused refused_after status runs lack =
     client_lacks (client_seen words) before after status runs.0 lack
+waits_lack (Discover words) before after refused refused_after status runs lack =
+    discover_lacks (discover_seen words) before after status runs.0 lack

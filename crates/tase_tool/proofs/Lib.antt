@@ -1,4 +1,5 @@
 mod LineParts
+mod Escaping
 mod Duties
 mod Listed
 mod Playing
@@ -10,5 +11,9 @@ mod Lacking
 mod VerdictsTold
 mod Counting
 mod Tasks
+mod Ended
+pub mod OfAsking
 pub mod OfClient
+pub mod OfDiscover
+pub mod OfLoading
 pub mod OfServer

@@ -1,4 +1,3 @@
-pub mod Faults
 pub mod Played
 pub mod Reasons
 pub mod Spared

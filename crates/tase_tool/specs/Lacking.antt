@@ -3,7 +3,7 @@ use Rattle.std.specs.Prelude.{◌≡◌, ◌⊎◌, ℕ, List, Option, Some, Res
 use Rattle.std.specs.declared.alloc.Global.{Global}
 use Rattle.outside.specs.Names.Outside.{OutsideTold}
 use Rattle.capture_text.specs.Captures.{capture_in}
-use Rattle.bilateral.specs.Rows.{CentreRows}
+use Rattle.bilateral.specs.Rows.{CentreRows, place_of_peer}
 use Rattle.centre_client.specs.Fronts.{HasGoodFront}
 use Rattle.tase_verify.specs.JournalIn.{journal_in}
 use Rattle.tase_verify.specs.LinkText.{given_in}
@@ -15,8 +15,9 @@ use Rattle.commands.specs.declared.io.input.TheConstants.{TEXT_LIMIT, JOURNAL_LI
 use Rattle.commands.specs.Files.Tables.{tables_in}
 use Rattle.commands.specs.Io.Inputs.{ReadsInput}
 use Rattle.commands.specs.Words.Words.{Question, ClientTask, Task, verifies, decodes_pdu}
-use Rattle.commands.specs.Words.Words.{lists_stream, plays_client}
+use Rattle.commands.specs.Words.Words.{lists_stream, plays_client, DiscoverTask, discovers}
 use Rattle.tase_tool.specs.Client.Playing.{PlaysAtNode}
+use Rattle.tase_tool.specs.Discover.Discovering.{ListsAtNode}
 
 -- ---- behind one input
 
@@ -106,6 +107,19 @@ abbrev pub LacksClient : ClientTask → OutsideTold → OutsideTold → Type 0
 LacksClient task before after =
     LacksAt (LacksFrom tables_in (LacksScript task)) task.tables TEXT_LIMIT before after
 
+-- ---- of a listing
+
+-- some peer has the key, and nothing was connected to; or it was listed at its node
+abbrev pub LacksListing : DiscoverTask → CentreRows → OutsideTold → OutsideTold → Type 0
+LacksListing task rows before after =
+    (peer : ℕ) × (place_of_peer rows task.key ≡ Some peer)
+    × ((after ≡ before) ⊎ ListsAtNode task rows peer before after statuses.Memory)
+
+-- its tables come first
+abbrev pub LacksDiscover : DiscoverTask → OutsideTold → OutsideTold → Type 0
+LacksDiscover task before after =
+    LacksAt (LacksFrom tables_in (LacksListing task)) task.tables TEXT_LIMIT before after
+
 -- ---- of any command
 
 -- once a capture is read, no line of it is bad
@@ -116,10 +130,12 @@ abbrev pub LacksCapture : List ℕ → OutsideTold → OutsideTold → Type 0
 LacksCapture name before after = LacksAt LacksMessages name TEXT_LIMIT before after
 
 -- where memory may be wanting for a command: a check hasn't read its last input to the end, no line
--- is bad of what its link gave, of a capture, or of a script in front of its first call
+-- is bad of what its link gave, of a capture, or of a script in front of its first call, and a peer
+-- has the key of a listing
 abbrev pub LacksFor : Option Task → OutsideTold → OutsideTold → Type 0
 LacksFor (Some (verifies question)) before after = LacksCheck question before after
 LacksFor (Some (decodes_pdu capture)) before after = LacksCapture capture before after
 LacksFor (Some (lists_stream capture)) before after = LacksCapture capture before after
 LacksFor (Some (plays_client task)) before after = LacksClient task before after
+LacksFor (Some (discovers task)) before after = LacksDiscover task before after
 LacksFor task before after = Unit {0}

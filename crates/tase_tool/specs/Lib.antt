@@ -7,7 +7,11 @@ pub mod Playing
 pub mod Kept
 pub mod Verifying
 pub mod Loading
+pub mod LoadEnds
 pub mod Lacking
 pub mod Running
+pub mod Statuses
+pub mod Asking
 pub mod Client
+pub mod Discover
 pub mod Server

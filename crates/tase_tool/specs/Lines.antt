@@ -5,6 +5,10 @@ use Rattle.std.specs.Prelude.{ℕ, List, [], ◌∷◌, ◌++◌, codes, decimal
 abbrev pub named_line : List ℕ → List ℕ → List ℕ
 named_line name words = name ++ 32 ∷ [] ++ words ++ 10 ∷ []
 
+-- a number behind a text, as a line
+abbrev pub number_line : List ℕ → ℕ → List ℕ
+number_line name number = name ++ decimal number ++ 10 ∷ []
+
 -- `stray N`
 abbrev pub stray_line : ℕ → List ℕ
-stray_line number = codes "stray " ++ decimal number ++ 10 ∷ []
+stray_line number = number_line (codes "stray ") number

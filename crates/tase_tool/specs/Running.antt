@@ -8,9 +8,11 @@ use Rattle.commands.specs.Io.Runs.{IsRun}
 use Rattle.commands.specs.Io.Plans.{RunsPlan}
 use Rattle.commands.specs.Words.Words.{ServeTask, ClientTask, Task, serves, plays_client}
 use Rattle.commands.specs.Words.Words.{serve_seen, client_seen, IsServed}
+use Rattle.commands.specs.Words.Words.{DiscoverTask, discovers, discover_seen}
 use Rattle.tase_tool.specs.declared.running.Waiting.{Waiting}
-use Rattle.tase_tool.specs.declared.running.Waiting.TheVariants.{Serve, Client}
+use Rattle.tase_tool.specs.declared.running.Waiting.TheVariants.{Serve, Client, Discover}
 use Rattle.tase_tool.specs.Client.Playing.{ClientCommand}
+use Rattle.tase_tool.specs.Discover.Discovering.{DiscoverCommand}
 use Rattle.tase_tool.specs.Server.Serving.{ServesCommand}
 use Rattle.tase_tool.specs.Saying.{usage, plan_of}
 
@@ -34,14 +36,22 @@ abbrev pub RunsClient : ClientTask → OutsideTold → OutsideTold → Status �
 RunsClient task before after status =
     ClientCommand task before after status ⊎ LacksMemory before after status
 
+-- what a node offers is listed
+abbrev pub RunsDiscover : DiscoverTask → OutsideTold → OutsideTold → Status → Type 0
+RunsDiscover task before after status =
+    DiscoverCommand task before after status ⊎ LacksMemory before after status
+
 -- what a run of the words that ask for this leaves outside, the count of refused starts before and
--- after, and the status that it answers: a server and a client do as they are told from outside;
--- every other command, and words that ask for none, say what they owe by the texts that they read
+-- after, and the status that it answers: a server, a client and a listing do as they are told from
+-- outside; every other command, and words that ask for none, say what they owe by the texts that
+-- they read
 abbrev pub RunsTask : Option Task → OutsideTold → OutsideTold → ℕ → ℕ → Status → Type 0
 RunsTask (Some (serves task)) before after refused refused_after status =
     RunsServe task before after refused refused_after status
 RunsTask (Some (plays_client task)) before after refused refused_after status =
     RunsClient task before after status × (refused_after ≡ refused)
+RunsTask (Some (discovers task)) before after refused refused_after status =
+    RunsDiscover task before after status × (refused_after ≡ refused)
 RunsTask task before after refused refused_after status =
     RunsOwed task before after status × (refused_after ≡ refused)
 
@@ -49,10 +59,12 @@ RunsTask task before after refused refused_after status =
 abbrev pub waits_for : Waiting → Task
 waits_for (Serve words) = serves (serve_seen words)
 waits_for (Client words) = plays_client (client_seen words)
+waits_for (Discover words) = discovers (discover_seen words)
 
 abbrev pub IsWaitLimited : Waiting → Type 0
 IsWaitLimited (Serve words) = IsServed (serve_seen words)
 IsWaitLimited (Client words) = Unit {0}
+IsWaitLimited (Discover words) = Unit {0}
 
 -- what a run of words that waits for nothing leaves: a command that waits is handed back, with
 -- nothing done; every other, and words that ask for none, say what they owe; memory may run out
@@ -62,4 +74,5 @@ RunsTexts task before after (Err waiting) =
     (task ≡ Some (waits_for waiting)) × (after ≡ before)
 RunsTexts (Some (serves task)) before after (Ok status) = LacksMemory before after status
 RunsTexts (Some (plays_client task)) before after (Ok status) = LacksMemory before after status
+RunsTexts (Some (discovers task)) before after (Ok status) = LacksMemory before after status
 RunsTexts task before after (Ok status) = RunsOwed task before after status

@@ -16,7 +16,7 @@ use Rattle.commands.specs.Load.Generated.{load_tables, load_scenario}
 use Rattle.commands.specs.Load.Summaries.{summary_text}
 use Rattle.commands.specs.Words.Words.{ReplayOptions, limit_of, Task, replays, lists_stream}
 use Rattle.commands.specs.Words.Words.{no_options, decodes_pdu, verifies, loads}
-use Rattle.commands.specs.Words.Words.{serves, plays_client}
+use Rattle.commands.specs.Words.Words.{serves, plays_client, discovers}
 use Rattle.tase_tool.specs.Decoding.{pdu_text}
 use Rattle.tase_tool.specs.Listing.{stream_said}
 use Rattle.commands.specs.Files.Tables.{tables_in}
@@ -105,7 +105,8 @@ list_plan name = reads (capture_asked name) (λ octets. says (stream_said (captu
 abbrev pub no_plan : Plan
 no_plan = says (prints Done [])
 
--- what these words ask for; a server and a client go by no plan (RunsTask says what they do)
+-- what these words ask for; a server, a client and a listing go by no plan (RunsTask says what they
+-- do)
 abbrev pub plan_of : Task → Plan
 plan_of (replays tables scenario options) = replay_plan tables scenario options
 plan_of (lists_stream capture) = list_plan capture
@@ -114,3 +115,4 @@ plan_of (verifies question) = verify_plan question
 plan_of (loads rounds) = says (load_said rounds)
 plan_of (serves task) = no_plan
 plan_of (plays_client task) = no_plan
+plan_of (discovers task) = no_plan

@@ -1,7 +1,6 @@
 //! The command `client`: a client over the link to another node that its words name.
 
 mod ending;
-mod opening;
 mod playing;
 
 pub use playing::run_client_command;

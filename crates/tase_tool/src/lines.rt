@@ -1,7 +1,7 @@
 //! Lines that are written to a sink without memory.
 ghost use Rattle.std.specs.Prelude.{◌++◌, [], ◌∷◌};
 ghost use Rattle.outside.specs.Sink.{WritesAll};
-ghost use Rattle.tase_tool.specs.Lines.{named_line, stray_line};
+ghost use Rattle.tase_tool.specs.Lines.{named_line, number_line, stray_line};
 
 use itoa::Buffer;
 use outside::{Sink, SinkFailed, write_all};
@@ -42,12 +42,23 @@ pub(crate) fn write_line<K: Sink>(
     write_all(sink, b"\n")
 }
 
+/// A number behind a text, and the end of the line.
+pub(crate) fn write_number<K: Sink>(
+    sink: &mut K,
+    name: &[u8],
+    number: u64,
+) -> Result<(), SinkFailed>
+    ensures { WritesAll (K.told sink.old) (K.told sink.new) (number_line name.now number) result }
+{
+    let mut room = Buffer::new();
+    let digits = room.format(number);
+    write_both(sink, name, digits.as_bytes())?;
+    write_all(sink, b"\n")
+}
+
 /// `stray N`.
 pub(crate) fn write_stray<K: Sink>(sink: &mut K, number: u64) -> Result<(), SinkFailed>
     ensures { WritesAll (K.told sink.old) (K.told sink.new) (stray_line number) result }
 {
-    let mut room = Buffer::new();
-    let digits = room.format(number);
-    write_both(sink, b"stray ", digits.as_bytes())?;
-    write_all(sink, b"\n")
+    write_number(sink, b"stray ", number)
 }

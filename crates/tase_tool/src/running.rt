@@ -10,6 +10,7 @@ ghost use Rattle.tase_tool.specs.Saying.{scenario_said, scenario_plan, replay_pl
 ghost use Rattle.tase_tool.specs.Saying.{played_said, kept_said};
 ghost use Rattle.tase_tool.specs.Running.{RunsTask, RunsTexts, IsWaitLimited, waits_for};
 ghost use Rattle.tase_tool.specs.Lacking.{LacksFor};
+ghost use Rattle.tase_tool.specs.LoadEnds.{EndsLoad};
 ghost use Rattle.tase_tool.specs.Playing.{EndsPlay};
 ghost use Rattle.tase_tool.specs.Sent.{node_of, played_on, SendsSoFar, SendsOver, SendsBy};
 ghost use Rattle.tase_tool.specs.Kept.{HasPlayed};
@@ -17,6 +18,7 @@ ghost use Rattle.commands.specs.Io.Statuses.{OnWhole};
 
 use crate::client::run_client_command;
 use crate::decoding::run_decode;
+use crate::discover::run_discover_command;
 use crate::listing::run_listing;
 use crate::loading::run_load;
 use crate::server::run_serve;
@@ -27,7 +29,7 @@ use commands::io::{
     InputEnd, OUTPUT, Refusal, RefusedLine, Status, TEXT_LIMIT, end_unread, note_line, print,
     read_input, tell_full, tell_refusal,
 };
-use commands::words::{ClientWords, Command, Options, ServeWords, read_command};
+use commands::words::{ClientWords, Command, DiscoverWords, Options, ServeWords, read_command};
 use job_threads::ThreadSpawner;
 use node_core::Node;
 use outside::links::Listener;
@@ -50,8 +52,10 @@ use tase_replay::{ReplayEnd, replay};
 /// generated, and prints what is counted of it. All is printed on standard output, which is `-` of
 /// the outside's sinks. `serve TABLES --journal FILE --listen ADDRESS` serves a node over these
 /// tables to whoever connects, with the jobs of the spawner, and `client TABLES SCRIPT --connect
-/// ADDRESS` plays a script over a connection to another node; both may wait for what comes from
-/// outside, and `run_serve` and `run_client_command` say what they do and answer.
+/// ADDRESS` plays a script over a connection to another node; `discover TABLES KEY --connect
+/// ADDRESS` lists what another node offers, and holds it against a peer's table. These three may
+/// wait for what comes from outside, and `run_serve`, `run_client_command` and
+/// `run_discover_command` say what they do and answer.
 ///
 /// What every other command answers and prints is, where the outside tells its octets, what the
 /// definitions say of those octets alone: the tables that the first text spells, and over them what
@@ -69,6 +73,12 @@ use tase_replay::{ReplayEnd, replay};
 /// that they gave to the link, its octets in order, and behind them once how its connection ended.
 /// Where it answers 4 or 7, this holds of the first of these lines, and what went out is what they
 /// print, or a front part of it; or it holds of all, and a front part of all that is said went out.
+///
+/// A load answers 0, 4 or 7: neither of its texts has a bad line, and its history is never full.
+///
+/// Where it answers 7, a check hasn't read to its end what the association was sent, and no line is
+/// bad of what its link gave, of a capture that is listed or decoded, or of a client's script in
+/// front of its first call, where these were read.
 pub fn run<R: Threads + Wait + Copy + Send + 'static, O: Outside>(
     rt: &R,
     alloc: Global,
@@ -89,6 +99,7 @@ where
         (taken_of ((O.told outside.new).sinks output_name)) }
     ensures memory { result ≡ Status.Memory → LacksFor (task_in (map string_bytes words.now))
         (O.told outside.old) (O.told outside.new) }
+    ensures load { EndsLoad (task_in (map string_bytes words.now)) result }
     ensures left { spawner.new.told.pending ≡ [] }
 {
     match run_texts(alloc, words, outside) {
@@ -102,6 +113,7 @@ where
 pub enum Waiting<'a> {
     Serve(ServeWords<'a>),
     Client(ClientWords<'a>),
+    Discover(DiscoverWords<'a>),
 }
 
 // Runs a command that waits.
@@ -125,12 +137,13 @@ where
     match waiting {
         Waiting::Serve(words) => run_serve(rt, alloc, words, outside, spawner),
         Waiting::Client(words) => run_client_command(rt, alloc, words, outside),
+        Waiting::Discover(words) => run_discover_command(rt, alloc, words, outside),
     }
 }
 
-/// Runs the command of these words, as `run` does, where that waits for nothing: any but `serve`
-/// and `client`, which are handed back, with nothing done. It takes no runtime, so it can't wait:
-/// it is proved to end.
+/// Runs the command of these words, as `run` does, where that waits for nothing: any but `serve`,
+/// `client` and `discover`, which are handed back, with nothing done. It takes no runtime, so it
+/// can't wait: it is proved to end.
 pub fn run_texts<'a, O: Outside>(
     alloc: Global,
     words: &'a [String],
@@ -207,6 +220,7 @@ fn run_task<'a, O: Outside>(
         Command::Load { rounds } => Ok(run_load(alloc, outside, rounds)),
         Command::Serve { words } => Err(Waiting::Serve(words)),
         Command::Client { words } => Err(Waiting::Client(words)),
+        Command::Discover { words } => Err(Waiting::Discover(words)),
     }
 }
 

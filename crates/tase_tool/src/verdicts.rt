@@ -91,7 +91,7 @@ fn octet_word(octet: Option<u8>, digits: &[u8]) -> &[u8]
 }
 
 // The two lower-case hexadecimal digits of an octet.
-fn digits_of(octet: u8) -> [u8; 2]
+pub(crate) fn digits_of(octet: u8) -> [u8; 2]
     ensures { result ≡ hex_pair octet }
 {
     [digit_of(octet / 16), digit_of(octet % 16)]

@@ -34,7 +34,7 @@ use outside::names::Outside;
 use sbo_device::Key;
 use std::alloc::{AllocError, Global};
 use std::sync::Arc;
-use tase_verify::association::{Account, AnsweredEvent};
+use tase_verify::association::{Account, AccountError, AnsweredEvent};
 use tase_verify::{LinkText, read_journal, read_link_text, verify_association};
 
 /// An association, as a journal tells it.
@@ -297,7 +297,7 @@ fn verify_sent<O: Outside>(
     alloc: Global,
     outside: &mut O,
     name: &str,
-    account: Result<Account, AllocError>,
+    account: Result<Account, AccountError>,
 ) -> Status
     ensures runs { (judged : List ℕ → AnyVerdict) → IfOk account (Judges judged)
         → RunsPlan (judged_plan name.now judged) (O.told outside.old) (O.told outside.new) result }
@@ -306,7 +306,7 @@ fn verify_sent<O: Outside>(
 {
     match account {
         Ok(account) => judge_file(alloc, outside, name, &account),
-        Err(AllocError) => Status::Memory,
+        Err(_) => Status::Memory,
     }
 }
 

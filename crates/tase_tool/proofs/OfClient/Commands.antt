@@ -1,5 +1,6 @@
 -- A run of a client's command: what it answers, and why a failure is answered.
-use Rattle.std.proofs.Common.{◌≡◌, ◌⊎◌, ℕ, true, List, [], ◌∷◌, refl, sym, ap, subst, inl, inr}
+use Rattle.std.proofs.Common.{◌≡◌, ◌⊎◌, ℕ, true, List, [], ◌∷◌, None, refl, sym, ap, subst}
+use Rattle.std.proofs.Common.{inl, inr}
 use Rattle.std.specs.Prelude.{Result, Ok, Err, Vec, codes}
 use Rattle.std.specs.declared.alloc.Global.{Global}
 use Rattle.outside.specs.Names.Outside.{OutsideTold}
@@ -11,70 +12,24 @@ use Rattle.commands.specs.declared.io.input.Refusal.TheVariants.{BadLine}
 use Rattle.commands.specs.declared.io.input.InputEnd.{InputEnd}
 use Rattle.commands.specs.declared.io.input.InputEnd.TheVariants.{Refused, Outside, Memory}
 use Rattle.commands.specs.Io.Statuses.{is_outside}
-use Rattle.commands.specs.Io.Inputs.{ReadsInput, is_lost}
-use Rattle.commands.specs.Io.OutsideUse.{Grows, Rises}
-use Rattle.commands.specs.Io.Runs.{EndsUnread}
-use Rattle.commands.specs.Io.Plans.{IsValue, IsSpelled, ReadsValue}
-use Rattle.commands.proofs.OfIo.Leaving.{Grows-same, Rises-after, Rises-grows}
-use Rattle.commands.proofs.OfIo.Entries.{IsKept, kept_used}
+use Rattle.commands.specs.Io.Inputs.{ReadsInput}
+use Rattle.commands.specs.Io.OutsideUse.{HasReason, Rises}
+use Rattle.commands.specs.Io.Runs.{output_name, EndsUnread}
+use Rattle.commands.specs.Io.Plans.{ReadsValue}
+use Rattle.commands.proofs.OfIo.Leaving.{Rises-after}
+use Rattle.commands.proofs.OfIo.Entries.{IsKept}
 use Rattle.commands.specs.Words.Words.{ClientTask}
 use Rattle.commands.specs.Files.Tables.{tables_in}
+use Rattle.tase_tool.specs.Asking.Opening.{OpensBoth}
 use Rattle.tase_tool.specs.Client.Playing.{GoesBehindScript, GoesBehindTables}
 use Rattle.tase_tool.specs.Client.Playing.{PlaysAtNode, PlaysScript, HasFaultyPart, IsScriptDone}
-use Rattle.tase_tool.proofs.OfClient.Faults.{opened_grows, unopened_rises}
+use Rattle.tase_tool.proofs.OfAsking.Faults.{opened_grows, unopened_rises}
+use Rattle.tase_tool.proofs.OfAsking.Inputs.{behind_unread, input_grows, input_kept, lost}
+use Rattle.tase_tool.proofs.OfAsking.Inputs.{tables_grow, tables_rise, unread_unasked}
+use Rattle.tase_tool.proofs.OfAsking.Inputs.{unread_unfinished, value_lost}
+use Rattle.tase_tool.proofs.OfAsking.Objects as objects
 use Rattle.tase_tool.proofs.OfClient.Played.{played_rises, run_unasked, run_done}
-use Rattle.tase_tool.proofs.OfClient.Reasons.{unopened_faulty, played_faulty, faulty_behind}
-use Rattle.tase_tool.proofs.OfClient.Reasons.{tables_faulty, script_faulty, printing_faulty}
-
--- ---- an input
-
-input_grows : (before after : OutsideTold) (name : List ℕ) (limit : ℕ)
-    (read : Result (Vec ℕ Global) InputEnd) → ReadsInput before after name limit read
-    → Grows before.faults after.faults
-input_grows before after name limit read reads = elim reads.opens.uses.counted.kept [
-  | inl same ↦ Grows-same before.faults after.faults same
-  | inr rose ↦ Rises-grows before.faults after.faults rose.0
-]
-
-lost : (read : Result (Vec ℕ Global) InputEnd) → read ≡ Err Outside → is_lost read ≡ true
-lost read is = ap (λ (r : Result (Vec ℕ Global) InputEnd). is_lost r) is
-
-value_lost : (spelled : List ℕ → Result CentreRows ℕ) (read : Result (Vec ℕ Global) InputEnd)
-    (result : Result CentreRows InputEnd) → IsValue spelled read result → result ≡ Err Outside
-    → is_lost read ≡ true
-value_lost spelled (Ok text) result value is =
-    absurd (subst (λ (r : Result CentreRows InputEnd). IsSpelled r (spelled text.items)) is value)
-value_lost spelled (Err (Refused refusal)) result value is = absurd cc
-value_lost spelled (Err Outside) result value is = refl
-value_lost spelled (Err Memory) result value is = absurd cc
-
--- a command that has no input fails where that wasn't read, or where its refusal isn't printed
-unread_rises : (called : List ℕ) (end : InputEnd) (before after : OutsideTold) (status : Status)
-    → EndsUnread called end before after status → status ≡ statuses.Outside
-    → ((end ≡ Outside) × (after ≡ before)) ⊎ Rises before.faults after.faults
-unread_rises called (Refused refusal) before after status ends is =
-    inr (ends.0.uses.counted.cause (ap is_outside is))
-unread_rises called Outside before after status ends is = inl (refl, ends.1)
-unread_rises called Memory before after status ends is = absurd cc
-
-unread_unasked : (called : List ℕ) (end : InputEnd) (before after : OutsideTold) (status : Status)
-    → EndsUnread called end before after status → status ≡ statuses.Usage → ⊥
-unread_unasked called (Refused refusal) before after status ends is = elim ends.1 [
-  | inl input ↦ absurd cc
-  | inr outside ↦ absurd cc
-]
-unread_unasked called Outside before after status ends is = absurd cc
-unread_unasked called Memory before after status ends is = absurd cc
-
--- an input that isn't there, and what the command does then
-behind_unread : (called : List ℕ) (end : InputEnd) (b m a : OutsideTold) (status : Status)
-    → Grows b.faults m.faults → (end ≡ Outside → Rises b.faults m.faults)
-    → EndsUnread called end m a status → status ≡ statuses.Outside → Rises b.faults a.faults
-behind_unread called end b m a status grows risen ends is =
-    elim (unread_rises called end m a status ends is) [
-      | inl same ↦ subst (λ (o : OutsideTold). Rises b.faults o.faults) (sym same.1) (risen same.0)
-      | inr rose ↦ Rises-after b.faults m.faults a.faults grows rose
-    ]
+use Rattle.tase_tool.proofs.OfClient.Reasons.{played_faulty, tables_faulty, script_faulty}
 
 -- ---- behind the script
 
@@ -126,19 +81,6 @@ script_unasked task rows (Err end) m a status goes is =
 
 -- ---- behind the tables
 
-tables_grow : (spelled : List ℕ → Result CentreRows ℕ) (name : List ℕ) (limit : ℕ)
-    (read : Result CentreRows InputEnd) (before after : OutsideTold)
-    → ReadsValue spelled name limit read before after → Grows before.faults after.faults
-tables_grow spelled name limit read before after reads =
-    input_grows before after name limit reads.0 reads.1
-
-tables_rise : (spelled : List ℕ → Result CentreRows ℕ) (name : List ℕ) (limit : ℕ)
-    (read : Result CentreRows InputEnd) (before after : OutsideTold)
-    → ReadsValue spelled name limit read before after → read ≡ Err Outside
-    → Rises before.faults after.faults
-tables_rise spelled name limit read before after reads is =
-    reads.1.opens.uses.counted.cause (value_lost spelled reads.0 read reads.2 is)
-
 pub command_rises : (task : ClientTask) (read : Result CentreRows InputEnd) (b m a : OutsideTold)
     (status : Status) → ReadsValue tables_in task.tables TEXT_LIMIT read b m
     → GoesBehindTables task read m a status → status ≡ statuses.Outside → Rises b.faults a.faults
@@ -161,10 +103,23 @@ command_unasked task (Err end) m a status goes is =
 
 -- ---- the reason of a failure
 
-input_kept : (b m : OutsideTold) (name : List ℕ) (limit : ℕ)
-    (read : Result (Vec ℕ Global) InputEnd) → ReadsInput b m name limit read → IsKept b m
-input_kept b m name limit read reads =
-    kept_used (name ∷ []) [] (is_lost read) b m reads.opens.uses
+abbrev names : ClientTask → List (List ℕ)
+names task = task.tables ∷ task.script ∷ []
+
+faulty_behind : (task : ClientTask) (b m a : OutsideTold) → IsKept b m → HasFaultyPart task m a
+    → HasFaultyPart task b a
+faulty_behind task b m a first faulty =
+    objects.faulty_behind (names task) task.address b m a first faulty
+
+unopened_faulty : (task : ClientTask) (t a : OutsideTold) → OpensBoth task.address t a None
+    → HasFaultyPart task t a
+unopened_faulty task t a unopened =
+    objects.unopened_faulty (names task) task.address t a unopened
+
+printing_faulty : (task : ClientTask) (b a : OutsideTold) → HasReason [] (output_name ∷ []) b a
+    → HasFaultyPart task b a
+printing_faulty task b a reason =
+    objects.printing_faulty (names task) task.address b a reason
 
 unread_reason : (task : ClientTask) (called : List ℕ) (end : InputEnd) (m a : OutsideTold)
     (status : Status) → EndsUnread called end m a status → status ≡ statuses.Outside
@@ -223,17 +178,6 @@ command_reason task (Err end) b m a status reads goes is =
 
 -- ---- the script is done
 
-unread_undone : {A : Type 0} (called : List ℕ) (end : InputEnd) (m a : OutsideTold)
-    → EndsUnread called end m a statuses.Done → A
-unread_undone {A} called (Refused refusal) m a ends = elim ends.1 [
-  | inl input ↦ absurd (let e : statuses.Done ≡ statuses.Input = input in cc)
-  | inr outside ↦ absurd (let e : statuses.Done ≡ statuses.Outside = outside in cc)
-]
-unread_undone {A} called Outside m a ends =
-    absurd (let e : statuses.Done ≡ statuses.Outside = ends.0 in cc)
-unread_undone {A} called Memory m a ends =
-    absurd (let e : statuses.Done ≡ statuses.Memory = ends.0 in cc)
-
 text_done : (task : ClientTask) (rows : CentreRows) (text : Vec ℕ Global) (b m l a : OutsideTold)
     → ReadsValue tables_in task.tables TEXT_LIMIT (Ok rows) b m
     → ReadsInput m l task.script TEXT_LIMIT (Ok text)
@@ -251,7 +195,7 @@ text_done task rows text b m l a tables reads (inl (inl over)) = record {
 text_done task rows text b m l a tables reads (inl (inr unconnected)) =
     absurd (let e : statuses.Done ≡ statuses.Outside = unconnected.answers in cc)
 text_done task rows text b m l a tables reads (inr (inl refuses)) =
-    unread_undone (codes "script") (Refused (BadLine refuses.fault.line)) l a refuses.told
+    unread_unfinished (codes "script") (Refused (BadLine refuses.fault.line)) l a true refuses.told
 text_done task rows text b m l a tables reads (inr (inr wanting)) =
     absurd (let e : statuses.Done ≡ statuses.Memory = wanting.0 in cc)
 
@@ -262,14 +206,15 @@ script_done : (task : ClientTask) (rows : CentreRows) (read : Result (Vec ℕ Gl
 script_done task rows (Ok text) b m l a tables reads goes =
     text_done task rows text b m l a tables reads goes
 script_done task rows (Err end) b m l a tables reads goes =
-    unread_undone (codes "script") end l a goes
+    unread_unfinished (codes "script") end l a true goes
 
 behind_done : (task : ClientTask) (read : Result CentreRows InputEnd) (b m a : OutsideTold)
     → ReadsValue tables_in task.tables TEXT_LIMIT read b m
     → GoesBehindTables task read m a statuses.Done → IsScriptDone task b a
 behind_done task (Ok rows) b m a tables goes =
     script_done task rows goes.read b m goes.mid a tables goes.reads goes.goes
-behind_done task (Err end) b m a tables goes = unread_undone (codes "tables") end m a goes
+behind_done task (Err end) b m a tables goes =
+    unread_unfinished (codes "tables") end m a true goes
 
 pub command_done : (task : ClientTask) (read : Result CentreRows InputEnd) (b m a : OutsideTold)
     (status : Status) → ReadsValue tables_in task.tables TEXT_LIMIT read b m

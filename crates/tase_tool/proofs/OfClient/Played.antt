@@ -1,6 +1,5 @@
 -- A client that was run over what was opened: a failure has its cause.
-use Rattle.std.proofs.Common.{◌≡◌, ◌⊎◌, ◌∙◌, ℕ, ◌<◌, true, List, refl, sym, ap, subst}
-use Rattle.std.proofs.Common.{inl, inr}
+use Rattle.std.proofs.Common.{◌≡◌, ◌∙◌, ℕ, ◌<◌, true, List, refl, ap, inl, inr}
 use Rattle.outside.specs.Faults.{counted}
 use Rattle.outside.specs.Sink.{SinkTold}
 use Rattle.outside.specs.Links.LinkAnswers.{LinkAnswers}
@@ -14,22 +13,16 @@ use Rattle.centre_client.specs.declared.service.run_end.RunEnd.TheVariants as ru
 use Rattle.centre_client.specs.Service.Runs.{PlaysText}
 use Rattle.centre_client.specs.Service.Terminals.{link_terminal}
 use Rattle.commands.specs.declared.io.status.Status.{Status}
-use Rattle.commands.specs.declared.io.status.Status.TheVariants.{Done, Usage, Outside, Memory, Peer}
+use Rattle.commands.specs.declared.io.status.Status.TheVariants.{Done, Usage, Outside, Memory}
 use Rattle.commands.specs.Io.OutsideUse.{Rises}
-use Rattle.commands.specs.Io.Saying.{prints}
-use Rattle.commands.specs.Io.Runs.{TellsSaid}
-use Rattle.commands.proofs.OfIo.Leaving.{Rises-after, Rises-before, Rises-positive}
-use Rattle.tase_tool.specs.Client.Ending.{TellsClientEnd, TellsPeer, TellsRunEnd}
+use Rattle.commands.proofs.OfIo.Leaving.{Rises-positive}
+use Rattle.tase_tool.specs.Client.Ending.{TellsClientEnd, TellsRunEnd}
 use Rattle.tase_tool.specs.Client.Playing.{PlaysOpened}
-use Rattle.tase_tool.proofs.OfClient.Faults.{counted_grows, faulty_rises, link_heard}
+use Rattle.tase_tool.proofs.OfAsking.Closed.{IsFaulty, closed_rises}
+use Rattle.tase_tool.proofs.OfAsking.Faults.{link_heard}
+use Rattle.tase_tool.proofs.OfAsking.Told.{peer_failed, peer_named, peer_unasked, peer_unfinished}
 
 -- the sink has failed in these writes
-peer_failed : (text : List ℕ) (before after : SinkTold) (status : Status)
-    → TellsPeer text before after status → status ≡ Outside
-    → after.faults ≡ counted true before.faults
-peer_failed text before after status tells is =
-    (subst (TellsSaid (prints Peer text) before after) is tells.0).1.faults
-
 client_failed : (end : ClientEnd) (before after : SinkTold) (status : Status)
     → TellsClientEnd end before after status → status ≡ Outside
     → after.faults ≡ counted true before.faults
@@ -46,13 +39,6 @@ client_failed (ends.Stray invoke) before after status tells is =
 client_failed ends.Memory before after status tells is = absurd cc
 
 -- ---- the names that it keeps
-
-peer_named : (text : List ℕ) (before after : SinkTold) (status : Status)
-    → TellsPeer text before after status → after.name ≡ before.name
-peer_named text before after status tells = elim tells.1 [
-  | inl told ↦ (subst (TellsSaid (prints Peer text) before after) told tells.0).1.name
-  | inr failed ↦ (subst (TellsSaid (prints Peer text) before after) failed tells.0).1.name
-]
 
 client_named : (end : ClientEnd) (before after : SinkTold) (status : Status)
     → TellsClientEnd end before after status → after.name ≡ before.name
@@ -78,17 +64,14 @@ run_named runs.SinkFault before after status tells = ap (λ (k : SinkTold). k.na
 module _ (rows : CentreRows) (text : List ℕ) (link : LinkTold) (sink : SinkTold)
     (before after : OutsideTold) (status : Status)
     (played : PlaysOpened rows text link sink before after status) where
-  -- the link or standard output has a fault when it is closed
-  abbrev pub IsFailed : Type 0
-  IsFailed = (0 < played.gone.faults) ⊎ (0 < played.told.faults)
-
   faulty : (first now : ℕ) → now ≡ counted true first → 0 < now
   faulty first now counts = Rises-positive first now (0, counts)
 
   by_end : (end : RunEnd) (first : LinkAnswers)
       → PlaysText rows text (link_terminal link sink) (link_terminal played.gone played.shown) first
       end
-      → TellsRunEnd end played.shown played.told status → status ≡ Outside → IsFailed
+      → TellsRunEnd end played.shown played.told status → status ≡ Outside
+      → IsFaulty played.gone played.told
   by_end (runs.Ended end) first plays tells is =
       inr (faulty played.shown.faults played.told.faults
       (client_failed end played.shown played.told status tells is))
@@ -98,7 +81,7 @@ module _ (rows : CentreRows) (text : List ℕ) (link : LinkTold) (sink : SinkTol
       inr (faulty sink.faults played.told.faults
       (ap (λ (k : SinkTold). k.faults) tells.1 ∙ plays.plays.appends.faults))
 
-  pub played_failed : status ≡ Outside → IsFailed
+  pub played_failed : status ≡ Outside → IsFaulty played.gone played.told
   played_failed is =
       let first = link_heard link in
       by_end played.end first.0 (played.plays first.0 first.1) played.tells is
@@ -115,23 +98,8 @@ module _ (rows : CentreRows) (text : List ℕ) (link : LinkTold) (sink : SinkTol
 
   -- then the count rises
   pub played_rises : status ≡ Outside → Rises before.faults after.faults
-  played_rises is = elim (played_failed is) [
-    | inl link_faulty ↦ Rises-before before.faults played.mid.faults after.faults
-        (faulty_rises played.gone.faults before.faults played.mid.faults link_faulty
-        played.leaves.faults)
-        (counted_grows _ played.mid.faults after.faults played.closes.faults)
-    | inr sink_faulty ↦ Rises-after before.faults played.mid.faults after.faults
-        (counted_grows _ before.faults played.mid.faults played.leaves.faults)
-        (faulty_rises played.told.faults played.mid.faults after.faults sink_faulty
-        played.closes.faults)
-  ]
-
-peer_unasked : (text : List ℕ) (before after : SinkTold) (status : Status)
-    → TellsPeer text before after status → status ≡ Usage → ⊥
-peer_unasked text before after status tells is = elim tells.1 [
-  | inl told ↦ absurd (let e : Peer ≡ Usage = sym told ∙ is in cc)
-  | inr failed ↦ absurd (let e : Outside ≡ Usage = sym failed ∙ is in cc)
-]
+  played_rises is = closed_rises played.gone played.told before played.mid after played.leaves
+      played.closes (played_failed is)
 
 client_unasked : (end : ClientEnd) (before after : SinkTold) (status : Status)
     → TellsClientEnd end before after status → status ≡ Usage → ⊥
@@ -157,21 +125,14 @@ run_unasked runs.SinkFault before after status tells is = absurd cc
 
 -- ---- done
 
-peer_undone : {A : Type 0} (text : List ℕ) (before after : SinkTold)
-    → TellsPeer text before after Done → A
-peer_undone {A} text before after tells = elim tells.1 [
-  | inl told ↦ absurd (let e : Done ≡ Peer = told in cc)
-  | inr failed ↦ absurd (let e : Done ≡ Outside = failed in cc)
-]
-
 client_done : (end : ClientEnd) (before after : SinkTold) → TellsClientEnd end before after Done
     → end ≡ ends.Finished
 client_done ends.Finished before after tells = refl
-client_done ends.PeerEnd before after tells = peer_undone _ before after tells
-client_done (ends.Refused fault) before after tells = peer_undone _ before after tells
-client_done ends.Rejected before after tells = peer_undone _ before after tells
-client_done (ends.Checkback want got) before after tells = peer_undone _ before after tells
-client_done (ends.Stray invoke) before after tells = peer_undone _ before after tells
+client_done ends.PeerEnd before after tells = peer_unfinished _ before after true tells
+client_done (ends.Refused fault) before after tells = peer_unfinished _ before after true tells
+client_done ends.Rejected before after tells = peer_unfinished _ before after true tells
+client_done (ends.Checkback want got) before after tells = peer_unfinished _ before after true tells
+client_done (ends.Stray invoke) before after tells = peer_unfinished _ before after true tells
 client_done ends.Memory before after tells =
     absurd (let e : Done ≡ Memory = tells.0 in cc)
 

@@ -1,14 +1,11 @@
 -- Where no part of the outside has an older fault, and none fails, none is counted.
-use Rattle.std.proofs.Common.{◌≡◌, ◌≢◌, ◌⊎◌, ◌∙◌, ℕ, Bool, false, List, [], ◌∷◌, Some, None}
-use Rattle.std.proofs.Common.{refl, sym, ap, subst, inl, inr}
-use Rattle.std.specs.Prelude.{Result, Ok, Err, Vec, codes, nat_lt}
+use Rattle.std.proofs.Common.{◌≡◌, ◌≢◌, ◌∙◌, ℕ, List, [], ◌∷◌, ap, subst, inl, inr}
+use Rattle.std.specs.Prelude.{Result, Ok, Err, Vec, codes}
 use Rattle.std.specs.declared.alloc.Global.{Global}
-use Rattle.outside.specs.Faults.{counted}
 use Rattle.outside.specs.Sink.{SinkTold}
 use Rattle.outside.specs.Links.LinkAnswers.{LinkAnswers}
 use Rattle.outside.specs.Links.Links.{LinkTold}
-use Rattle.outside.specs.Names.Outside.{NameEntry, untold, missing, lent, there, OutsideTold}
-use Rattle.outside.specs.Names.Outside.{HandsOutObject}
+use Rattle.outside.specs.Names.Outside.{OutsideTold}
 use Rattle.bilateral.specs.Rows.{CentreRows}
 use Rattle.centre_client.specs.declared.end.ClientEnd.{ClientEnd}
 use Rattle.centre_client.specs.declared.end.ClientEnd.TheVariants as ends
@@ -20,92 +17,24 @@ use Rattle.commands.specs.declared.io.status.Status.{Status}
 use Rattle.commands.specs.declared.io.status.Status.TheVariants as statuses
 use Rattle.commands.specs.declared.io.input.TheConstants.{TEXT_LIMIT}
 use Rattle.commands.specs.declared.io.input.InputEnd.{InputEnd}
-use Rattle.commands.specs.declared.io.input.InputEnd.TheVariants.{Refused, Outside, Memory}
+use Rattle.commands.specs.declared.io.input.InputEnd.TheVariants.{Refused, Outside}
 use Rattle.commands.specs.declared.io.input.Refusal.TheVariants.{BadLine}
-use Rattle.commands.specs.Io.Statuses.{is_outside}
-use Rattle.commands.specs.Io.Inputs.{ReadsInput, is_lost}
-use Rattle.commands.specs.Io.OutsideUse.{CleanAt, Uses, source_faults, sink_faults}
-use Rattle.commands.specs.Io.Saying.{prints}
-use Rattle.commands.specs.Io.Runs.{output_name, EndsUnread, TellsSaid}
-use Rattle.commands.specs.Io.Plans.{IsValue, ReadsValue}
-use Rattle.commands.proofs.OfIo.Leaving.{CleanAt-after}
+use Rattle.commands.specs.Io.Inputs.{ReadsInput}
+use Rattle.commands.specs.Io.Plans.{ReadsValue}
 use Rattle.commands.specs.Words.Words.{ClientTask}
 use Rattle.commands.specs.Files.Tables.{tables_in}
-use Rattle.tase_tool.specs.Client.Opening.{OpensEach}
-use Rattle.tase_tool.specs.Client.Ending.{TellsClientEnd, TellsPeer, TellsRunEnd}
+use Rattle.tase_tool.specs.Asking.Opening.{OpensEach}
+use Rattle.tase_tool.specs.Client.Ending.{TellsClientEnd, TellsRunEnd}
 use Rattle.tase_tool.specs.Client.Playing.{PlaysOpened, PlaysAtNode, PlaysScript, GoesBehindScript}
-use Rattle.tase_tool.specs.Client.Playing.{GoesBehindTables, link_faults, HasCleanParts}
-use Rattle.tase_tool.proofs.OfClient.Faults.{link_heard}
-
--- ---- what is read
-
--- an input was read, and wasn't lost: all parts are clean still
-clean_behind : (task : ClientTask) (names : List (List ℕ)) (b m : OutsideTold)
-    → Uses names [] false b m → HasCleanParts task b → HasCleanParts task m
-clean_behind task names b m uses clean = (
-  (
-    CleanAt-after source_faults (b.sources task.tables) (m.sources task.tables)
-        (uses.sources.again task.tables) clean.0.0,
-    (
-      CleanAt-after source_faults (b.sources task.script) (m.sources task.script)
-          (uses.sources.again task.script) clean.0.1.0,
-      tt,
-    ),
-  ),
-  (
-    CleanAt-after sink_faults (b.sinks output_name) (m.sinks output_name)
-        (uses.sinks.again output_name) clean.1.0,
-    tt,
-  ),
-  subst (λ n. CleanAt link_faults (n.links task.address)) (sym uses.network) clean.2,
-)
-
-read_unlost : (b m : OutsideTold) (name : List ℕ) (limit : ℕ)
-    (read : Result (Vec ℕ Global) InputEnd) → ReadsInput b m name limit read
-    → is_lost read ≡ false → Uses (name ∷ []) [] false b m
-read_unlost b m name limit read reads kept =
-    subst (λ (f : Bool). Uses (name ∷ []) [] f b m) kept reads.opens.uses
-
-read_same : (b m : OutsideTold) (name : List ℕ) → Uses (name ∷ []) [] false b m
-    → CleanAt source_faults (b.sources name) → m.faults ≡ b.faults
-read_same b m name uses clean = uses.counted.exact ((clean, tt), tt) refl
-
-kept_or_lost : (read : Result (Vec ℕ Global) InputEnd)
-    → (is_lost read ≡ false) ⊎ (read ≡ Err Outside)
-kept_or_lost (Ok text) = inl refl
-kept_or_lost (Err (Refused refusal)) = inl refl
-kept_or_lost (Err Outside) = inr refl
-kept_or_lost (Err Memory) = inl refl
-
-value_or_lost : (spelled : List ℕ → Result CentreRows ℕ) (read : Result (Vec ℕ Global) InputEnd)
-    (result : Result CentreRows InputEnd) → IsValue spelled read result
-    → (is_lost read ≡ false) ⊎ (result ≡ Err Outside)
-value_or_lost spelled (Ok text) result value = inl refl
-value_or_lost spelled (Err (Refused refusal)) result value = inl refl
-value_or_lost spelled (Err Outside) result value = inr value
-value_or_lost spelled (Err Memory) result value = inl refl
-
--- a refusal is printed
-unread_same : (called : List ℕ) (end : InputEnd) (m a : OutsideTold) (status : Status)
-    → EndsUnread called end m a status → CleanAt sink_faults (m.sinks output_name)
-    → status ≢ statuses.Outside → a.faults ≡ m.faults
-unread_same called (Refused refusal) m a status ends clean other =
-    ends.0.uses.counted.exact (tt, (clean, tt)) (elim ends.1 [
-      | inl input ↦ ap is_outside input
-      | inr outside ↦ absurd (other outside)
-    ])
-unread_same called Outside m a status ends clean other = absurd (other ends.0)
-unread_same called Memory m a status ends clean other = ap (λ (o : OutsideTold). o.faults) ends.1
+use Rattle.tase_tool.specs.Client.Playing.{GoesBehindTables, HasCleanParts}
+use Rattle.tase_tool.proofs.OfAsking.Closed.{closed_clean}
+use Rattle.tase_tool.proofs.OfAsking.Faults.{link_heard}
+use Rattle.tase_tool.proofs.OfAsking.Inputs.{kept_or_lost, read_same, read_unlost, unread_same}
+use Rattle.tase_tool.proofs.OfAsking.Inputs.{value_or_lost}
+use Rattle.tase_tool.proofs.OfAsking.Objects.{clean_behind, opened_clean}
+use Rattle.tase_tool.proofs.OfAsking.Told.{peer_spared}
 
 -- ---- what is told of the end
-
-peer_spared : (text : List ℕ) (before after : SinkTold) (status : Status)
-    → TellsPeer text before after status → status ≢ statuses.Outside
-    → after.faults ≡ before.faults
-peer_spared text before after status tells other = elim tells.1 [
-  | inl told ↦ (subst (TellsSaid (prints statuses.Peer text) before after) told tells.0).1.faults
-  | inr failed ↦ absurd (other failed)
-]
 
 client_spared : (end : ClientEnd) (before after : SinkTold) (status : Status)
     → TellsClientEnd end before after status → status ≢ statuses.Outside
@@ -127,24 +56,6 @@ client_spared ends.Memory before after status tells other =
 
 -- ---- what was handed out
 
-handed_clean : {X : Type 0} (name_of : X → List ℕ) (faults : X → ℕ)
-    (entries : List ℕ → NameEntry X) (name : List ℕ) (s : NameEntry X) (x : X)
-    → HandsOutObject name_of faults entries name s (Some x) → CleanAt faults s → faults x ≡ 0
-handed_clean {X} name_of faults entries name untold x hands clean = hands.0
-handed_clean {X} name_of faults entries name missing x hands clean =
-    absurd (let e : Some x ≡ None = hands in cc)
-handed_clean {X} name_of faults entries name lent x hands clean =
-    absurd (let e : Some x ≡ None = hands in cc)
-handed_clean {X} name_of faults entries name (there z) x hands clean =
-    let same : Some x ≡ Some z = hands.0 in
-    let is : x ≡ z = cc in ap faults is ∙ clean
-
--- an object without faults isn't counted when it is closed
-closed_same : (faults before now : ℕ) → faults ≡ 0 → now ≡ counted (nat_lt 0 faults) before
-    → now ≡ before
-closed_same faults before now none closed =
-    closed ∙ ap (λ (n : ℕ). counted (nat_lt 0 n) before) none
-
 module _ (rows : CentreRows) (text : List ℕ) (link : LinkTold) (sink : SinkTold)
     (o a : OutsideTold) (status : Status)
     (played : PlaysOpened rows text link sink o a status) (other : status ≢ statuses.Outside)
@@ -165,24 +76,17 @@ module _ (rows : CentreRows) (text : List ℕ) (link : LinkTold) (sink : SinkTol
     played_same clean_link clean_sink =
         let first = link_heard link in
         let kept = by_end played.end first.0 (played.plays first.0 first.1) played.tells in
-        closed_same played.told.faults played.mid.faults a.faults (kept.1 ∙ clean_sink)
-        played.closes.faults
-        ∙ closed_same played.gone.faults o.faults played.mid.faults (kept.0 ∙ clean_link)
-        played.leaves.faults
+        closed_clean played.gone played.told o played.mid a played.leaves played.closes
+        (kept.0 ∙ clean_link) (kept.1 ∙ clean_sink)
 
 over_same : (task : ClientTask) (rows : CentreRows) (text : List ℕ) (t a : OutsideTold)
     (status : Status) → PlaysAtNode task rows text t a status → HasCleanParts task t
     → status ≢ statuses.Outside → a.faults ≡ t.faults
 over_same task rows text t a status over clean other =
     let opens : OpensEach task.address t over.opened over.link over.sink = over.opens in
-    let sinks : t.sinks ≡ opens.mid.sinks =
-    sym (ap (λ (x : OutsideTold). x.sinks) opens.connects.rest) in
-    played_same rows text over.link over.sink over.opened a status over.plays other
-    (handed_clean (λ link. link.name) link_faults t.network.links task.address
-    (t.network.links task.address) over.link opens.connects.link clean.2)
-    (handed_clean (λ sink. sink.name) sink_faults opens.mid.sinks output_name
-    (opens.mid.sinks output_name) over.sink opens.opens.sink
-    (subst (λ k. CleanAt sink_faults (k output_name)) sinks clean.1.0))
+    let new = opened_clean (task.tables ∷ task.script ∷ []) task.address t over.opened over.link
+    over.sink opens clean in
+    played_same rows text over.link over.sink over.opened a status over.plays other new.0 new.1
     ∙ opens.opens.faults ∙ opens.connects.faults
 
 -- ---- the command
@@ -226,7 +130,8 @@ script_same task rows read b m a status reads goes clean other = elim (kept_or_l
   | inl kept ↦
       let uses = read_unlost b m task.script TEXT_LIMIT read reads kept in
       behind_script task rows read m a status goes
-      (clean_behind task (task.script ∷ []) b m uses clean) other
+      (clean_behind (task.tables ∷ task.script ∷ []) task.address (task.script ∷ []) b m uses
+      clean) other
       ∙ read_same b m task.script uses clean.0.1.0
   | inr lost ↦ lost_script task rows read m a status lost goes other
 ]
@@ -256,7 +161,8 @@ command_same task read b m a status reads goes clean other =
       | inl kept ↦
           let uses = read_unlost b m task.tables TEXT_LIMIT reads.0 reads.1 kept in
           behind_tables task read m a status goes
-          (clean_behind task (task.tables ∷ []) b m uses clean) other
+          (clean_behind (task.tables ∷ task.script ∷ []) task.address (task.tables ∷ []) b m
+          uses clean) other
           ∙ read_same b m task.tables uses clean.0.0
       | inr lost ↦ lost_tables task read m a status lost goes other
     ]

@@ -1,26 +1,15 @@
 -- How a client ended, as it is told behind what the client showed.
-use Rattle.std.specs.Prelude.{◌≡◌, ◌⊎◌, ℕ, List, [], ◌∷◌, ◌++◌, codes, decimal, ℤ}
+use Rattle.std.specs.Prelude.{◌≡◌, ℕ, List, [], ◌∷◌, ◌++◌, codes, ℤ}
 use Rattle.std.specs.Fmt.{signed_decimal}
 use Rattle.outside.specs.Sink.{SinkTold}
-use Rattle.stack_assoc.specs.declared.messages.fault.StackFault.{StackFault}
-use Rattle.stack_assoc.specs.Listing.Names.{layer_name, why_name}
 use Rattle.commands.specs.declared.io.status.Status.{Status}
 use Rattle.commands.specs.declared.io.status.Status.TheVariants as statuses
-use Rattle.commands.specs.Io.Saying.{prints}
-use Rattle.commands.specs.Io.Runs.{TellsSaid}
 use Rattle.tase_tool.specs.Lines.{named_line, stray_line}
+use Rattle.tase_tool.specs.Asking.Ending.{TellsPeer, refused_line}
 use Rattle.centre_client.specs.declared.end.ClientEnd.{ClientEnd}
 use Rattle.centre_client.specs.declared.end.ClientEnd.TheVariants as ends
 use Rattle.centre_client.specs.declared.service.run_end.RunEnd.{RunEnd}
 use Rattle.centre_client.specs.declared.service.run_end.RunEnd.TheVariants as runs
-
--- `LAYER PLACE WHY`
-abbrev pub fault_words : StackFault → List ℕ
-fault_words f = layer_name f.layer ++ 32 ∷ [] ++ decimal f.place ++ 32 ∷ [] ++ why_name f.why
-
--- `peer refused LAYER PLACE WHY`
-abbrev pub refused_line : StackFault → List ℕ
-refused_line fault = named_line (codes "peer refused") (fault_words fault)
 
 -- `WANT GOT`
 abbrev pub number_words : ℤ → ℤ → List ℕ
@@ -29,12 +18,6 @@ number_words want got = signed_decimal want ++ 32 ∷ [] ++ signed_decimal got
 -- `checkback WANT GOT`
 abbrev pub checkback_line : ℤ → ℤ → List ℕ
 checkback_line want got = named_line (codes "checkback") (number_words want got)
-
--- a line on how a client ended by what its peer gave; it takes no memory
-abbrev pub TellsPeer : List ℕ → SinkTold → SinkTold → Status → Type 0
-TellsPeer text before after status =
-    TellsSaid (prints statuses.Peer text) before after status
-    × ((status ≡ statuses.Peer) ⊎ (status ≡ statuses.Outside))
 
 -- nothing is told where a client has played its script to its end, nor where memory ran out
 abbrev pub TellsClientEnd : ClientEnd → SinkTold → SinkTold → Status → Type 0

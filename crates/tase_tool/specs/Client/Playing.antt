@@ -23,13 +23,13 @@ use Rattle.commands.specs.declared.io.input.InputEnd.{InputEnd}
 use Rattle.commands.specs.declared.io.input.InputEnd.TheVariants.{Refused, Memory}
 use Rattle.commands.specs.declared.io.input.Refusal.TheVariants.{BadLine}
 use Rattle.commands.specs.Io.Inputs.{ReadsInput}
-use Rattle.commands.specs.Io.OutsideUse.{Rises, SomeOf, EachOf, FaultyAt, CleanAt}
-use Rattle.commands.specs.Io.OutsideUse.{source_faults, sink_faults}
-use Rattle.commands.specs.Io.Runs.{output_name, EndsUnread}
+use Rattle.commands.specs.Io.OutsideUse.{Rises}
+use Rattle.commands.specs.Io.Runs.{EndsUnread}
 use Rattle.commands.specs.Io.Plans.{ReadsValue}
 use Rattle.commands.specs.Words.Words.{ClientTask}
 use Rattle.commands.specs.Files.Tables.{tables_in}
-use Rattle.tase_tool.specs.Client.Opening.{OpensEach, OpensBoth, LeavesLink}
+use Rattle.tase_tool.specs.Asking.Opening.{OpensEach, OpensBoth, LeavesLink}
+use Rattle.tase_tool.specs.Asking.Parts.{HasFaultyObject, HasCleanObjects}
 use Rattle.tase_tool.specs.Client.Ending.{TellsRunEnd}
 
 -- a client plays the script that a text spells over a link and standard output, and writes no
@@ -114,25 +114,16 @@ GoesBehindTables task (Ok rows) before after status = ReadsScript task rows befo
 GoesBehindTables task (Err end) before after status =
     EndsUnread (codes "tables") end before after status
 
-abbrev pub link_faults : LinkTold → ℕ
-link_faults link = link.faults
-
 -- under one of the names or at the address of the command nothing stood at first, or what stood
 -- there has a fault now, where that is told
 abbrev pub HasFaultyPart : ClientTask → OutsideTold → OutsideTold → Type 0
-HasFaultyPart task before after = SomeOf (task.tables ∷ task.script ∷ [])
-    (λ name. FaultyAt source_faults (before.sources name) (after.sources name))
-    ⊎ (SomeOf (output_name ∷ [])
-    (λ name. FaultyAt sink_faults (before.sinks name) (after.sinks name))
-    ⊎ FaultyAt link_faults (before.network.links task.address)
-    (after.network.links task.address))
+HasFaultyPart task before after =
+    HasFaultyObject (task.tables ∷ task.script ∷ []) task.address before after
 
 -- no object under the names and at the address of the command has a fault, where that is told
 abbrev pub HasCleanParts : ClientTask → OutsideTold → Type 0
-HasCleanParts task before = EachOf (task.tables ∷ task.script ∷ [])
-    (λ name. CleanAt source_faults (before.sources name))
-    × EachOf (output_name ∷ []) (λ name. CleanAt sink_faults (before.sinks name))
-    × CleanAt link_faults (before.network.links task.address)
+HasCleanParts task before =
+    HasCleanObjects (task.tables ∷ task.script ∷ []) task.address before
 
 -- The tables and the script were read, and the client played the script to its end and its release
 -- was answered.

@@ -9,8 +9,8 @@ ghost use Rattle.tase_tool.specs.Client.Playing.{ClientCommand, GoesBehindTables
 ghost use Rattle.tase_tool.specs.Client.Playing.{PlaysScript, MeetsNode, PlaysOpened};
 ghost use Rattle.tase_tool.specs.Client.Playing.{IsShared};
 
+use crate::asking::opening::{close_link, open_both};
 use crate::client::ending::tell_run_end;
-use crate::client::opening::{close_link, open_both};
 use bilateral::Centre;
 use centre_client::ScriptFault;
 use centre_client::service::{LinkTerminal, Talk, run_client};

@@ -1,4 +1,4 @@
-use Rattle.std.proofs.Common.{sym, subst, Some}
+use Rattle.std.proofs.Common.{refl, sym, subst, Some}
 use Rattle.std.specs.Prelude.{map, string_bytes}
 use Rattle.commands.specs.Io.Saying.{texts_of}
 use Rattle.commands.specs.Words.Words.{task_in}
@@ -7,6 +7,7 @@ use Rattle.tase_tool.specs.Running.{RunsTask, waits_for}
 use Rattle.tase_tool.specs.Sent.{SendsBy}
 use Rattle.tase_tool.specs.Lacking.{LacksFor}
 use Rattle.tase_tool.proofs.Lacking.{waits_lack}
+use Rattle.tase_tool.proofs.OfLoading.Ends.{load_ends}
 use Rattle.tase_tool.proofs.Sending.{output_of}
 use Rattle.tase_tool.proofs.Tasks.{RunsTask-texts, waits-send}
 use Rattle.tase_tool.proofs.running.run.Goals as goal
@@ -26,6 +27,20 @@ returns-in-Err-clause-runs g c =
     (subst (λ (o : OutsideTold). RunsTask (Some (waits_for c.in-Err.waiting)) o after
     c.args.spawner.now.told.faults c.run_waiting.new.spawner.told.faults c.run_waiting.result)
     c.in-Err.ensures.runs.1 c.run_waiting.ensures.runs)
+
+pub returns-in-Ok-clause-load : goal.returns-in-Ok-clause-load
+returns-in-Ok-clause-load g c =
+    load_ends (map string_bytes c.args.words.now) (task_in (map string_bytes c.args.words.now)) refl
+    (g.O.Outside.told c.args.outside.now) (g.O.Outside.told c.run_texts.new.outside)
+    c.args.spawner.now.told.faults c.args.spawner.now.told.faults c.in-Ok.status
+    (returns-in-Ok-clause-runs g c)
+
+pub returns-in-Err-clause-load : goal.returns-in-Err-clause-load
+returns-in-Err-clause-load g c =
+    load_ends (map string_bytes c.args.words.now) (task_in (map string_bytes c.args.words.now)) refl
+    (g.O.Outside.told c.args.outside.now) (g.O.Outside.told c.run_waiting.new.outside)
+    c.args.spawner.now.told.faults c.run_waiting.new.spawner.told.faults c.run_waiting.result
+    (returns-in-Err-clause-runs g c)
 
 pub returns-in-Err-clause-sent : goal.returns-in-Err-clause-sent
 returns-in-Err-clause-sent g c =

@@ -2,7 +2,7 @@ use Rattle.std.proofs.Common.{refl, sym, subst, Some, Ok, Err}
 use Rattle.commands.specs.Words.Words.{task_of, IsLimited}
 use Rattle.tase_tool.specs.Running.{RunsTexts}
 use Rattle.tase_tool.specs.Lacking.{LacksFor}
-use Rattle.tase_tool.specs.declared.running.Waiting.TheVariants.{Serve, Client}
+use Rattle.tase_tool.specs.declared.running.Waiting.TheVariants.{Serve, Client, Discover}
 use Rattle.tase_tool.proofs.running.run_task.Goals as goal
 
 pub returns-in-Replay-clause-runs : goal.returns-in-Replay-clause-runs
@@ -25,6 +25,12 @@ returns-in-Client-clause-runs g c =
     subst (λ command. RunsTexts (Some (task_of command)) (g.O.Outside.told c.args.outside.now)
     (g.O.Outside.told c.args.outside.now) (Err (Client c.in-Client.words)))
     (sym c.in-Client.is) (refl, refl)
+
+pub returns-in-Discover-clause-runs : goal.returns-in-Discover-clause-runs
+returns-in-Discover-clause-runs g c =
+    subst (λ command. RunsTexts (Some (task_of command)) (g.O.Outside.told c.args.outside.now)
+    (g.O.Outside.told c.args.outside.now) (Err (Discover c.in-Discover.words)))
+    (sym c.in-Discover.is) (refl, refl)
 
 pub returns-in-Replay-clause-memory : goal.returns-in-Replay-clause-memory
 returns-in-Replay-clause-memory g c =

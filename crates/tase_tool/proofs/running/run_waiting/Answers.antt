@@ -15,3 +15,10 @@ returns-in-Client-clause-runs g c =
     (g.O.Outside.told c.run_client_command.new.outside) c.args.spawner.now.told.faults
     c.args.spawner.now.told.faults c.run_client_command.result)
     (sym c.in-Client.is) (inl c.run_client_command.ensures, refl)
+
+pub returns-in-Discover-clause-runs : goal.returns-in-Discover-clause-runs
+returns-in-Discover-clause-runs g c =
+    subst (λ waiting. RunsTask (Some (waits_for waiting)) (g.O.Outside.told c.args.outside.now)
+    (g.O.Outside.told c.run_discover_command.new.outside) c.args.spawner.now.told.faults
+    c.args.spawner.now.told.faults c.run_discover_command.result)
+    (sym c.in-Discover.is) (inl c.run_discover_command.ensures, refl)

@@ -3,7 +3,8 @@ use Rattle.std.specs.Int.{w64}
 use Rattle.std.specs.Int.RustNames.{FitsSigned}
 use Rattle.std.proofs.lemmas.Int.{to_z-of_z}
 use Rattle.outside.specs.Sink.{WritesAll}
-use Rattle.tase_tool.specs.Client.Ending.{TellsClientEnd, checkback_line, refused_line}
+use Rattle.tase_tool.specs.Asking.Ending.{refused_line}
+use Rattle.tase_tool.specs.Client.Ending.{TellsClientEnd, checkback_line}
 use Rattle.tase_tool.specs.Lines.{stray_line}
 use Rattle.tase_tool.proofs.client.ending.tell_client_end.Goals as goal
 

@@ -1,6 +1,6 @@
-//! What a client works on, opened one after another.
+//! What an asking end works on, opened one after another.
 ghost use Rattle.std.specs.Prelude.{option_map};
-ghost use Rattle.tase_tool.specs.Client.Opening.{OpensBoth, LeavesLink};
+ghost use Rattle.tase_tool.specs.Asking.Opening.{OpensBoth, LeavesLink};
 
 use commands::io::OUTPUT;
 use outside::links::Link;

@@ -1,6 +1,6 @@
 use Rattle.std.proofs.Common.{inl, inr, refl, subst}
 use Rattle.outside.specs.Sink.{WritesAll}
-use Rattle.tase_tool.proofs.client.ending.peer_status.Goals as goal
+use Rattle.tase_tool.proofs.asking.ending.peer_status.Goals as goal
 
 pub returns-in-Ok : goal.returns-in-Ok
 returns-in-Ok c = λ text before after w.

@@ -1,4 +1,4 @@
--- What a client works on, opened one after another: a link and standard output.
+-- What an asking end works on, opened one after another: a link and standard output.
 use Rattle.std.specs.Prelude.{◌⊎◌, ℕ, List, Option, Some, None}
 use Rattle.outside.specs.Sink.{SinkTold}
 use Rattle.outside.specs.Links.Links.{LinkTold, closed_link}

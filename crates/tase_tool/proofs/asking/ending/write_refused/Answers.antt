@@ -6,7 +6,7 @@ use Rattle.outside.proofs.Writing.{AppendsPart-front, WritesAll-then}
 use Rattle.stack_assoc.specs.Listing.Names.{layer_name, why_name}
 use Rattle.tase_tool.specs.Lines.{named_line}
 use Rattle.tase_tool.proofs.LineParts.{in_two}
-use Rattle.tase_tool.proofs.client.ending.write_refused.Goals as goal
+use Rattle.tase_tool.proofs.asking.ending.write_refused.Goals as goal
 
 pub returns-in_err-write_words : goal.returns-in_err-write_words
 returns-in_err-write_words g c =

@@ -10,7 +10,7 @@ use Rattle.outside.specs.Links.Links.{LinkTold}
 use Rattle.outside.specs.Names.Outside.{OutsideTold}
 use Rattle.commands.specs.Io.OutsideUse.{Grows, Rises}
 use Rattle.commands.proofs.OfIo.Leaving.{Grows-same, Rises-after, Rises-before}
-use Rattle.tase_tool.specs.Client.Opening.{OpensEach, OpensBoth, OpensLink}
+use Rattle.tase_tool.specs.Asking.Opening.{OpensEach, OpensBoth, OpensLink}
 
 pub counted_grows : (failed : Bool) (before now : ℕ) → now ≡ counted failed before
     → Grows before now

@@ -1,0 +1,4 @@
+pub mod Takes
+pub mod Asked
+pub mod Loaded
+pub mod Ends
