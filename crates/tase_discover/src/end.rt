@@ -3,6 +3,9 @@
 /// The most names that a peer may offer.
 pub const MOST_NAMES: usize = 100_000;
 
+// Definitions cite the limit, so that it stands here as a number too.
+const _: () = prove!(MOST_NAMES == 100_000);
+
 /// What a listing asks.
 #[derive(Clone, Copy, Debug, PartialEq, Eq)]
 pub enum Stage {

@@ -152,8 +152,8 @@ pub enum Command<'a> {
     Client {
         words: ClientWords<'a>,
     },
-    /// `discover TABLES KEY --connect ADDRESS`: what another node offers is listed, and held against
-    /// the table of the peer with this key.
+    /// `discover TABLES KEY --connect ADDRESS`: what another node offers is listed, and held
+    /// against the table of the peer with this key.
     Discover {
         words: DiscoverWords<'a>,
     },
