@@ -3,7 +3,7 @@ use Rattle.std.proofs.Common.{◌≡◌, ◌≢◌, ℕ, ◌+◌, ◌%◌, ◌<�
 use Rattle.std.proofs.Common.{◌∷◌, map, set, length, Some, refl, sym, ap, ◌∙◌}
 use Rattle.std.proofs.Common.{subst, ⊎_elim, arith, zero-add, length-set, get_or-set_same}
 use Rattle.std.proofs.Common.{get_or-set_other, min}
-use Rattle.std.specs.Prelude.{replicate, slice_get, slice_index}
+use Rattle.std.specs.Prelude.{Bool, is_some, replicate, slice_get, slice_index}
 use Rattle.std.proofs.lemmas.Bool.{cases_eq, eq-eqb, ne_eqb}
 use Rattle.std.proofs.lemmas.List.{length-replicate, get_or-replicate, length-map}
 use Rattle.std.proofs.lemmas.Option.{slice_get-get_or, slice_get-map, get_or_from_slice_get, slice_get_within}
@@ -14,7 +14,8 @@ use Rattle.tase_points.specs.Sample.{Sample}
 use Rattle.tase_points.specs.Values.{unknown_sample, is_change}
 use Rattle.point_db.specs.declared.store.TheConstants.{SERIAL_LIMIT}
 use Rattle.point_db.specs.Updates.{Update, Updates, last_value, change_count, change_total}
-use Rattle.point_db.specs.Stored.{Stored, Keeps, noted, last_serial}
+use Rattle.point_db.specs.Updates.{last_given}
+use Rattle.point_db.specs.Stored.{Stored, Keeps, noted, given_value, last_serial}
 
 slice_get-replicate : {X : Type 0} (n k : ℕ) (x : X) → k < n → slice_get (replicate n x) k ≡ Some x
 slice_get-replicate n k x within =
@@ -34,17 +35,35 @@ slice_get-set_other xs p q y apart within =
     slice_get-get_or (set xs p y) q y (omega arith) ∙ ap Some (get_or-set_other xs p q y y apart)
     ∙ sym (slice_get-get_or xs q y within)
 
+-- which points were given a value, with one more
+given-set : (kinds : List Kind) (past : Updates) (p : ℕ) (value : Sample) (given : List Bool)
+    → ((q : ℕ) → q < length kinds → slice_get given q ≡ Some (is_some (last_given past q)))
+    → (q : ℕ) → q < length kinds
+    → slice_get (set given p true) q
+    ≡ Some (is_some (last_given (record { point = p; value = value } ∷ past) q))
+given-set kinds past p value given kept q there = ⊎_elim
+    (λ here. subst (λ at. slice_get (set given p true) at
+    ≡ Some (is_some (last_given (record { point = p; value = value } ∷ past) at))) here
+    (rw (eq-eqb p p refl)
+    (slice_get-set_here given p true
+    (slice_get_within given p _ (kept p (rw here there))))))
+    (λ apart. rw (ne_eqb p q apart)
+    (slice_get-set_other given p q true (λ e. apart (sym e)) (slice_get_within given q _ (kept q there))
+    ∙ kept q there))
+    (cases_eq p q)
+
 -- before any update
 pub Keeps-new : (kinds : List Kind) (s : Stored)
     → s.values ≡ map unknown_sample kinds
     → s.counts ≡ replicate (length kinds) 0 → s.changed ≡ replicate (length kinds) 0
-    → s.serial ≡ 0 → Keeps kinds [] s
-Keeps-new kinds s values_are counts_are changed_are serial_is = record {
+    → s.given ≡ replicate (length kinds) false → s.serial ≡ 0 → Keeps kinds [] s
+Keeps-new kinds s values_are counts_are changed_are given_are serial_is = record {
   points = ap length values_are ∙ length-map kinds unknown_sample;
   last = λ p there. rw values_are (slice_get-map unknown_sample kinds p
       ∙ rw (slice_get-get_or kinds p State there) refl);
   count = λ p there. rw counts_are (slice_get-replicate (length kinds) p 0 there);
   changed = λ p there. rw changed_are (slice_get-replicate (length kinds) p 0 there);
+  given = λ p there. rw given_are (slice_get-replicate (length kinds) p false there);
   serial = serial_is;
 }
 
@@ -52,7 +71,7 @@ Keeps-new kinds s values_are counts_are changed_are serial_is = record {
 pub Keeps-put : (kinds : List Kind) (past : Updates) (p : ℕ) (value : Sample) (s new : Stored)
     → p < length s.values
     → is_change (last_value kinds past p) value ≡ false
-    → new ≡ record s { values = set s.values p value }
+    → new ≡ given_value s p value
     → Keeps kinds past s → Keeps kinds (record { point = p; value = value } ∷ past) new
 Keeps-put kinds past p value s new within same new_is k =
     let points : length s.values ≡ length kinds = k.points in
@@ -80,6 +99,7 @@ Keeps-put kinds past p value s new within same new_is k =
           (rw (eq-eqb p p refl, same) (k.changed p (omega arith))))
           (λ apart. rw (ne_eqb p q apart) (k.changed q there))
           (cases_eq p q);
+      given = λ q there. given-set kinds past p value s.given k.given q there;
       serial = rw (same, zero-add (change_total kinds past)) k.serial;
     })
 
@@ -93,7 +113,7 @@ raised total = omega arith
 pub Keeps-change : (kinds : List Kind) (past : Updates) (p : ℕ) (value : Sample) (s new : Stored)
     → p < length s.values
     → is_change (last_value kinds past p) value ≡ true
-    → new ≡ record (noted s p) { values = set s.values p value }
+    → new ≡ given_value (noted s p) p value
     → Keeps kinds past s → Keeps kinds (record { point = p; value = value } ∷ past) new
 Keeps-change kinds past p value s new within same new_is k =
     let points : length s.values ≡ length kinds = k.points in
@@ -132,5 +152,6 @@ Keeps-change kinds past p value s new within same new_is k =
           (slice_get-set_other s.changed p q _ (λ e. apart (sym e)) (slice_get_within s.changed q _ (k.changed q there))
           ∙ k.changed q there))
           (cases_eq p q);
+      given = λ q there. given-set kinds past p value s.given k.given q there;
       serial = rw same serial_is;
     })

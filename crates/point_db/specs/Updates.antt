@@ -1,6 +1,6 @@
 -- Updates of points, and what they give each point.
 use Rattle.std.specs.Prelude.{◌≡◌, ℕ, ◌+◌, ◌<◌, ◌==◌, min, Bool, IsTrue, if◌then◌else◌}
-use Rattle.std.specs.Prelude.{List, [], ◌∷◌, ◌++◌, Some, None, filter_map, slice_get}
+use Rattle.std.specs.Prelude.{List, [], ◌∷◌, ◌++◌, Option, Some, None, filter_map, slice_get}
 use Rattle.std.specs.Option.{unwrap_or}
 use Rattle.tase_points.specs.declared.kind.Kind.{Kind}
 use Rattle.tase_points.specs.declared.kind.Kind.TheVariants.{State}
@@ -25,6 +25,15 @@ kind_at kinds point = unwrap_or (slice_get kinds point) State
 abbrev pub values_given : Updates → ℕ → List Sample
 values_given past point =
     filter_map (λ u. if u.point == point then Some u.value else None) past
+
+-- the newest of values, which stand newest first
+abbrev pub newest_of : List Sample → Option Sample
+newest_of [] = None
+newest_of (value ∷ values) = Some value
+
+-- the value that a point was given last, also one that it had before any
+abbrev pub last_given : Updates → ℕ → Option Sample
+last_given past point = newest_of (values_given past point)
 
 -- the last of some values; before any, none known
 abbrev pub last_of : Kind → List Sample → Sample

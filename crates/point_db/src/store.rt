@@ -1,11 +1,12 @@
 //! The values of all points at a moment, found by number.
 ghost use Rattle.std.specs.Prelude.{if◌then◌else◌, ◌≡◌, ◌+◌, ◌%◌, ◌<◌, ◌↔◌, ℕ, List, [], ◌∷◌};
-ghost use Rattle.std.specs.Prelude.{length, map, slice_set, IfOk, IsTrue};
+ghost use Rattle.std.specs.Prelude.{length, map, option_copied, IfOk, IsTrue};
 ghost use Rattle.tase_points.specs.declared.kind.Kind.{Kind as PointKind};
 ghost use Rattle.tase_points.specs.declared.layout.TheConstants.{COV_MODULUS};
 ghost use Rattle.tase_points.specs.Values.{is_change, unknown_sample};
-ghost use Rattle.point_db.specs.Updates.{Update, last_value, change_count, serial_of, HasChanged};
-ghost use Rattle.point_db.specs.Stored.{Keeps, noted};
+ghost use Rattle.point_db.specs.Updates.{Update, last_value, last_given, change_count, serial_of};
+ghost use Rattle.point_db.specs.Updates.{HasChanged};
+ghost use Rattle.point_db.specs.Stored.{Keeps, noted, given_value};
 
 use std::alloc::{AllocError, Global};
 use std::marker::Model;
@@ -24,6 +25,8 @@ pub struct PointDb {
     values: Vec<PointValue>,
     counts: Vec<u16>,
     changed: Vec<u64>,
+    /// Whether a point was ever given a value, also the one that it has before any.
+    given: Vec<bool>,
     serial: u64,
 }
 
@@ -37,6 +40,7 @@ impl Model for PointDb {
       values = db.values.items;
       counts = db.counts.items;
       changed = db.changed.items;
+      given = db.given.items;
       serial = db.serial;
     } };
 
@@ -44,6 +48,7 @@ impl Model for PointDb {
       values = db.values.items;
       counts = db.counts.items;
       changed = db.changed.items;
+      given = db.given.items;
       serial = db.serial;
     }) };
 }
@@ -57,6 +62,7 @@ impl PointDb {
             values: unknown_values(alloc, kinds)?,
             counts: vec![in alloc; 0u16; kinds.len()]?,
             changed: vec![in alloc; 0u64; kinds.len()]?,
+            given: vec![in alloc; false; kinds.len()]?,
             serial: 0,
         })
     }
@@ -83,9 +89,11 @@ impl PointDb {
     /// Keeps a point's new value.
     fn put(&mut self, point: u32, value: PointValue)
         requires known { point < length self.old.values }
-        ensures { self.new ≡ record self.old { values = slice_set self.old.values point value } }
+        ensures { self.new ≡ given_value self.old point value }
     {
-        self.values[point as usize] = value;
+        let place = point as usize;
+        self.values[place] = value;
+        self.given[place] = true;
     }
 
     /// Counts a change of a point.
@@ -106,6 +114,20 @@ impl PointDb {
             → result.now ≡ last_value kinds past point }
     {
         &self.values[point as usize]
+    }
+
+    /// The value that a point was given last; none where it was never given one.
+    pub fn last_update(&self, point: u32) -> Option<&PointValue>
+        requires known { point < length self.now.values }
+        ensures { (kinds : List PointKind) (past : List Update) → Keeps kinds past self.now
+            → option_copied result ≡ last_given past point }
+    {
+        let place = point as usize;
+        if self.given[place] {
+            Some(&self.values[place])
+        } else {
+            None
+        }
     }
 
     /// How often a point has changed, modulo 65,536.
