@@ -12,11 +12,10 @@ use Rattle.tase_views.specs.Moves.{requesting, taking, closing, taking_orders, f
 use Rattle.tase_views.specs.OwnTables.{OwnDevice, OwnTables, Owns, device_named, is_selectable}
 use Rattle.tase_views.specs.Force.{force_in}
 use Rattle.tase_views.specs.Devices.{Deed, deed_of}
-use Rattle.tase_views.specs.View.{held_in, seen_by}
+use Rattle.tase_views.specs.View.{held_in, seen_by, seen_in}
 use Rattle.tase_views.proofs.OwnDevices.{Each, deed_is}
 use Rattle.tase_views.proofs.DeviceRows.{each_as, table_named}
 use Rattle.tase_views.proofs.NotShown.{no_deed_unseen, unnamed_unseen, close_unseen}
-use Rattle.tase_views.proofs.Seen.{seen_in}
 
 -- tables name no device that others name
 abbrev pub SharesNone : OwnTables → OwnTables → Type 0

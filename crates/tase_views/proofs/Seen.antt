@@ -9,19 +9,12 @@ use Rattle.tase_views.specs.declared.event.Entry.{Entry}
 use Rattle.tase_views.specs.Moves.{Act, Move, acts, sort_of, moves_of}
 use Rattle.tase_views.specs.History.{Past, key_at}
 use Rattle.tase_views.specs.OwnTables.{Owns, own_tables}
-use Rattle.tase_views.specs.View.{own, seen_by, view_by, moves_in, View, view_of}
+use Rattle.tase_views.specs.View.{own, seen_by, view_by, moves_in, View, view_of, seen_in}
 
 pub cons_append : {A : Type 0} (x : Option A) (xs ys : List A)
     → cons_option x (xs ++ ys) ≡ cons_option x xs ++ ys
 cons_append None xs ys = refl
 cons_append (Some x) xs ys = refl
-
--- what a peer sees of moves, the newest first, behind others
-abbrev pub seen_in : CentreRows → Owns → ℕ → List Move → List Move → View
-seen_in rows owns peer before [] = []
-seen_in rows owns peer before (move ∷ moves) =
-    cons_option (seen_by rows owns peer (moves ++ before) move)
-    (seen_in rows owns peer before moves)
 
 pub view_by-append : (rows : CentreRows) (owns : Owns) (peer : ℕ) (moves before : List Move)
     → view_by rows owns peer (moves ++ before)

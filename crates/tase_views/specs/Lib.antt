@@ -24,3 +24,7 @@ pub mod Answers
 pub mod Reports
 pub mod Orders
 pub mod Outcomes
+pub mod Lived
+pub mod Chosen
+pub mod Given
+pub mod Listed

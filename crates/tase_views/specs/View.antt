@@ -105,6 +105,13 @@ module _ (rows : CentreRows) (owns : Owns) where
 abbrev pub view_of : CentreRows → ℕ → Past → View
 view_of rows peer past = view_by rows (own_tables rows) peer (moves_in past)
 
+-- what a peer sees of moves, the newest first, behind others
+abbrev pub seen_in : CentreRows → Owns → ℕ → List Move → List Move → View
+seen_in rows owns peer before [] = []
+seen_in rows owns peer before (move ∷ moves) =
+    cons_option (seen_by rows owns peer (moves ++ before) move)
+    (seen_in rows owns peer before moves)
+
 -- what a seen move bears on the peer's table in force
 abbrev pub table_seen : Seen → Option TableMove
 table_seen (own ordinal opens) = Some opened

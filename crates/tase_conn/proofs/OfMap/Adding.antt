@@ -19,10 +19,10 @@ use Rattle.tase_views.specs.History.{Past, key_at}
 use Rattle.tase_views.specs.OwnTables.{OwnTables, own_tables}
 use Rattle.tase_views.specs.Moves.{Act, Move, acts_of_call, writes_of, moves_by, moves_of}
 use Rattle.tase_views.specs.Moves.{sort_of}
-use Rattle.tase_views.specs.View.{own, moves_in, View, view_of}
+use Rattle.tase_views.specs.View.{own, moves_in, View, view_of, seen_in}
 use Rattle.tase_views.specs.Moves as act
 use Rattle.tase_views.specs.Answers.{reply_to}
-use Rattle.tase_views.proofs.Seen.{seen_in, view_of-entry, seen_own as acts_seen}
+use Rattle.tase_views.proofs.Seen.{view_of-entry, seen_own as acts_seen}
 use Rattle.tase_conn.specs.Map.Turns.{Turn, offers, offers_badly, asks, concludes, releases, aborts}
 use Rattle.tase_conn.specs.Map.Turns.{breaks, ends, pauses}
 use Rattle.tase_conn.specs.Map.Out.{Talk, is_asked, is_asked_by, acts_made, turns_behind, first_reply}

@@ -18,8 +18,7 @@ use Rattle.tase_views.specs.OwnTables.{is_point_of, device_named, is_selectable}
 use Rattle.tase_views.specs.Devices.{Deed, deed_of}
 use Rattle.tase_views.specs.View.{Seen, own, other_acted, other_closed, updated, tagged, asked}
 use Rattle.tase_views.specs.View.{ticked, stopped, chose, shows_act, deed_seen, other_seen, held_in}
-use Rattle.tase_views.specs.View.{seen_by, View}
-use Rattle.tase_views.proofs.Seen.{seen_in}
+use Rattle.tase_views.specs.View.{seen_by, View, seen_in}
 use Rattle.tase_conn.specs.Map.Out.{Talk, octets_in, acts_made}
 
 -- whether a seen move is one of the peer's association with this ordinal

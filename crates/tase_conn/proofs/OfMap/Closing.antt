@@ -16,8 +16,8 @@ use Rattle.tase_views.specs.History.{association_in, key_at, is_key, entries_of}
 use Rattle.tase_views.specs.OwnTables.{OwnTables, own_tables}
 use Rattle.tase_views.specs.Outcomes.{is_close}
 use Rattle.tase_views.specs.Moves.{moves_of, sort_of}
-use Rattle.tase_views.specs.View.{moves_in, View, view_of}
-use Rattle.tase_views.proofs.Seen.{seen_in, view_of-entry}
+use Rattle.tase_views.specs.View.{moves_in, View, view_of, seen_in}
+use Rattle.tase_views.proofs.Seen.{view_of-entry}
 use Rattle.tase_conn.proofs.OfMap.Apart.{same_key, apart_event, apart_adds}
 use Rattle.tase_conn.specs.Map.Out.{Talk, octets_in}
 use Rattle.tase_conn.specs.Map.Closed.{is_closed}

@@ -27,11 +27,11 @@ use Rattle.tase_views.specs.Outcomes.{is_close}
 use Rattle.tase_views.specs.Moves.{Act, Move, updates, tags, ticks, asks, chooses}
 use Rattle.tase_views.specs.Moves.{takes_orders, acts_of_call, moves_by, moves_of}
 use Rattle.tase_views.specs.Moves.{sort_of}
-use Rattle.tase_views.specs.View.{Seen, own}
+use Rattle.tase_views.specs.View.{Seen, own, seen_in}
 use Rattle.tase_views.specs.View.{other_acted, other_closed, updated, tagged, asked, ticked}
 use Rattle.tase_views.specs.View.{chose, stopped, moves_in, View, view_of}
 use Rattle.tase_views.specs.Moves as act
-use Rattle.tase_views.proofs.Seen.{seen_in, view_of-entry}
+use Rattle.tase_views.proofs.Seen.{view_of-entry}
 use Rattle.tase_conn.specs.Map.Readings.{Reading, reading_of}
 use Rattle.tase_conn.specs.Map.Turns.{Turn, offers, offers_badly, asks, concludes, releases, aborts}
 use Rattle.tase_conn.specs.Map.Turns.{breaks, ends, pauses, fault_turns, turns_told}

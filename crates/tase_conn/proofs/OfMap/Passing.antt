@@ -15,9 +15,9 @@ use Rattle.tase_views.specs.declared.event.Entry.{Entry}
 use Rattle.tase_views.specs.History.{Past, counts_open, opens_in, next_key, key_at}
 use Rattle.tase_views.specs.OwnTables.{OwnTables, own_tables}
 use Rattle.tase_views.specs.Moves.{Act, acts_of_call, moves_of, sort_of}
-use Rattle.tase_views.specs.View.{own, moves_in, View, view_of}
+use Rattle.tase_views.specs.View.{own, moves_in, View, view_of, seen_in}
 use Rattle.tase_views.specs.Moves as act
-use Rattle.tase_views.proofs.Seen.{seen_in, view_of-entry}
+use Rattle.tase_views.proofs.Seen.{view_of-entry}
 use Rattle.tase_conn.specs.Map.Turns.{Turn, offers, offers_badly, asks, concludes, releases, aborts}
 use Rattle.tase_conn.specs.Map.Turns.{breaks, ends, pauses}
 use Rattle.tase_conn.specs.Map.Out.{Talk, is_asked, acts_made, turns_behind, octets_in}

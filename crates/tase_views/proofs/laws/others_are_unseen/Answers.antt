@@ -3,8 +3,8 @@ use Rattle.std.specs.List.{cons_option}
 use Rattle.sbo_device.specs.declared.key.Key.{Key}
 use Rattle.tase_views.specs.Moves.{sort_of, moves_of}
 use Rattle.tase_views.specs.OwnTables.{own_tables}
-use Rattle.tase_views.specs.View.{Seen, View, moves_in, view_of}
-use Rattle.tase_views.proofs.Seen.{seen_in, view_of-entry}
+use Rattle.tase_views.specs.View.{Seen, View, moves_in, view_of, seen_in}
+use Rattle.tase_views.proofs.Seen.{view_of-entry}
 use Rattle.tase_views.proofs.Others.{act_unseen, sort_unseen}
 use Rattle.tase_views.proofs.NotShown.{update_unseen, choice_unseen, tag_unseen}
 use Rattle.tase_views.proofs.laws.others_are_unseen.Goals as goal
