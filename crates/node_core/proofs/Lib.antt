@@ -9,3 +9,4 @@ pub mod Seeing
 pub mod Views
 pub mod Moments
 pub mod LateSelections
+pub mod DeedsFound

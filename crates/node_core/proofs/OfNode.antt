@@ -14,3 +14,4 @@ pub mod Indexing
 pub mod TickDrafts
 pub mod PeerTotals
 pub mod Bounds
+pub mod GivenValues

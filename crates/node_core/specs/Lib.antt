@@ -3,6 +3,7 @@ pub mod Devices
 pub mod Slots
 pub mod Feeds
 pub mod Replies
+pub mod Deeds
 pub mod NodeState
 pub mod LastValues
 pub mod PeerParts

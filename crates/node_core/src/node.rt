@@ -31,6 +31,7 @@ mod log;
 mod parts;
 mod peer;
 mod refusals;
+mod told;
 
 use crate::feeds::{Advance, Change, ReportCause};
 use crate::objects::InForce;
@@ -68,6 +69,7 @@ impl Model for Node {
     ghost use Rattle.node_core.specs.NodeState.{NodeState};
     ghost use Rattle.node_core.specs.Stored.{IsNode};
     ghost use Rattle.node_core.specs.Room.{HasRoom, past_of};
+    ghost use Rattle.tase_views.specs.Lived.{IsLived};
 
     ghost Value = { NodeState };
 
@@ -79,7 +81,8 @@ impl Model for Node {
     } };
 
     ghost invariant = { λ n. IsNode (arc_value n.centre) (past_of n.log) n.hub n.parts
-        × HasRoom n.log (hash_map_len n.hub.seats) };
+        × HasRoom n.log (hash_map_len n.hub.seats)
+        × IsLived (arc_value n.centre) (past_of n.log) };
 }
 
 impl Node {
@@ -284,7 +287,7 @@ impl Node {
             }
             EventKind::Tag { device, .. } => {
                 let device = *device;
-                self.tag(who, device, event)
+                self.tag_device(who, device, event)
             }
             EventKind::Tick { now } => {
                 let now = *now;
@@ -384,7 +387,7 @@ impl Node {
     }
 
     /// Tags a device.
-    fn tag(&mut self, who: u64, device: u32, event: Event) -> Result<Answer, AllocError>
+    fn tag_device(&mut self, who: u64, device: u32, event: Event) -> Result<Answer, AllocError>
         requires tag { IsTaggingOf device event }
         requires free { refusal_of self.old.setup (reverse self.old.history) who event ≡ None }
         ensures answer { IfOk result

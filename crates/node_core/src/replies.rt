@@ -12,4 +12,4 @@ pub(crate) use peer_view::{PeerView, ReadReply};
 pub(crate) use reports::owns;
 pub(crate) use sorts::{CallSort, sort_of};
 pub(crate) use timeouts::add_timeouts;
-pub(crate) use write_requests::{read_writes, written};
+pub(crate) use write_requests::{read_tagging, read_writes, written};

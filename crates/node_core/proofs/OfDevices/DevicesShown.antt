@@ -15,9 +15,9 @@ use Rattle.sbo_device.specs.declared.hold.Hold.{Hold}
 use Rattle.sbo_device.specs.Moves.{ControlPoint, DeviceMove, selected, operated, closed, ticked}
 use Rattle.sbo_device.specs.Moves.{tagged}
 use Rattle.sbo_device.specs.States.{is_held_by, is_held_by_other, has_run_out, is_granted}
-use Rattle.sbo_device.specs.States.{is_permitted, state_in, hold_of}
+use Rattle.sbo_device.specs.States.{is_permitted, state_in, hold_of, tag_of}
 use Rattle.sbo_device.specs.SameMoves.{renumbered_hold, TellsApart}
-use Rattle.sbo_device.specs.Banks.{DeviceRecord, BankState, StandBy, device_at}
+use Rattle.sbo_device.specs.Banks.{DeviceRecord, BankState, StandBy, device_at, tag_shown}
 use Rattle.sbo_device.proofs.BankMoves.{tag_told}
 use Rattle.sbo_device.proofs.OneHolder.{point_stays}
 use Rattle.tase_views.specs.Moves.{Move}
@@ -230,3 +230,14 @@ devices_seen rows past peer variant bank lawful there stands k other within =
     (table_named tables variant))
     k other within)
     stands.devices
+
+-- the tag of a device, by its number, is the last one of its moves
+pub tag_is : (rows : CentreRows) (past : Past) (bank : BankState) (n : ℕ)
+    → n < length rows.devices → IsDeviceBank rows (moves_in past) bank
+    → tag_shown (device_at bank.devices n)
+    ≡ tag_of (device_moves (device_of rows n).name
+    (steps_in rows (own_tables rows) (moves_in past)))
+tag_is rows past bank n within kept =
+    tag_told (controls_of rows)
+    (moves_of_each rows (steps_in rows (own_tables rows) (moves_in past))) bank.devices n
+    (row_control (device_of rows n)) kept.devices (control_at rows n within)

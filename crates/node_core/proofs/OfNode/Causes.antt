@@ -27,6 +27,7 @@ use Rattle.tase_views.specs.Outcomes.{stop_refusal, seat_refusal, name_refusal}
 use Rattle.tase_views.specs.Moves.{sort_of}
 use Rattle.tase_views.specs.Outcomes.{clock_refusal, clock_refusal_by, weight_refusal}
 use Rattle.tase_views.specs.Outcomes.{first_refusal, refusal_of}
+use Rattle.tase_views.specs.Lived.{unweighed_refusal}
 use Rattle.node_core.specs.NodeState.{NodeState}
 use Rattle.node_core.specs.Stored.{IsRequest, IsTaggingOf}
 use Rattle.node_core.specs.Room.{LeavesSeats}
@@ -61,6 +62,18 @@ free_of setup past who event e =
       timed = parts.3;
       light = parts.4;
     }
+
+four_none : (a b c d : Option StepFault) → a ≡ None → b ≡ None → c ≡ None → d ≡ None
+    → first_refusal (a ∷ first_refusal (b ∷ c ∷ []) ∷ d ∷ []) ≡ None
+four_none a b c d stopped seated named timed = rw (stopped, seated, named, timed) refl
+
+-- what isn't refused isn't refused whatever the history weighs
+pub unweighed_free : (setup : Setup) (past : Past) (who : ℕ) (event : EventKind)
+    → IsFree setup past who event → unweighed_refusal setup.centre past who event ≡ None
+unweighed_free setup past who event free =
+    four_none (stop_refusal past event) (seat_refusal (association_in past who) event)
+    (name_refusal setup.centre event) (clock_refusal past event) free.going free.seated free.named
+    free.timed
 
 -- a refusal by its five parts
 pub refusal_of-parts : (setup : Setup) (past : Past) (who : ℕ) (event : EventKind)

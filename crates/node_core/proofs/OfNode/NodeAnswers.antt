@@ -1,13 +1,15 @@
 -- What the answers of a node's functions have in common.
 use Rattle.std.proofs.Common.{◌≡◌, ◌^◌, ◌≤◌, ◌<◌, ℕ, false, List, [], ◌∷◌, ◌++◌, length, reverse}
-use Rattle.std.proofs.Common.{Option, Some, None, sym, subst, ◌∙◌, arith}
+use Rattle.std.proofs.Common.{Option, Some, None, sym, ap, subst, ◌∙◌, arith}
 use Rattle.std.specs.Arc.{arc_value}
 use Rattle.std.specs.HashMap.{hash_map_len}
 use Rattle.bilateral.specs.Rows.{CentreRows, IsCentre}
 use Rattle.sbo_device.specs.declared.key.Key.{Key}
+use Rattle.tase_views.specs.declared.event.Entry.{Entry}
 use Rattle.tase_views.specs.declared.event.EventKind.{EventKind}
-use Rattle.tase_views.specs.History.{association_in}
+use Rattle.tase_views.specs.History.{Past, association_in}
 use Rattle.tase_views.specs.Outcomes.{is_ending, refusal_of}
+use Rattle.tase_views.specs.Lived.{IsLived}
 use Rattle.node_core.specs.declared.node.hub.Hub.{Hub}
 use Rattle.node_core.specs.declared.node.Node.TheInside.{Inside}
 use Rattle.node_core.specs.declared.node.parts.Parts.{Parts}
@@ -18,7 +20,7 @@ use Rattle.node_core.specs.Stored.{IsNode, found_by}
 use Rattle.node_core.specs.declared.feeds.index.PeerIndex.{PeerIndex}
 use Rattle.node_core.specs.declared.node.peer.Peer.{Peer}
 use Rattle.node_core.specs.Feeds.Indexed.{AreIndexed, OthersStay, HasIndex}
-use Rattle.node_core.proofs.OfNode.Causes.{IsFree, free_in, light-fits}
+use Rattle.node_core.proofs.OfNode.Causes.{IsFree, free_in, light-fits, unweighed_free}
 use Rattle.node_core.proofs.OfNode.Outcomes.{reverse_push}
 use Rattle.node_core.proofs.OfNode.Rooms.{MayAppend-reserved}
 use Rattle.node_core.proofs.OfNode.NodeSteps.{seat_there}
@@ -34,7 +36,7 @@ seen_as node = record {
 -- what a node keeps, with another log, hub and parts
 abbrev pub Keeps : Inside → LogState → Hub → Parts → Type 0
 Keeps node log hub parts = IsNode (arc_value node.centre) (past_of log) hub parts
-    × HasRoom log (hash_map_len hub.seats)
+    × HasRoom log (hash_map_len hub.seats) × IsLived (arc_value node.centre) (past_of log)
 
 -- what an entry's place and the closes behind it take is reserved
 abbrev pub Reserves : LogState → LogState → ℕ → ℕ → EventKind → Type 0
@@ -95,19 +97,39 @@ module _ (node : Inside) where
         → ((before : ℕ) → HasRoom node.log before → HasRoom mid before)
         → hash_map_len hub.seats ≡ hash_map_len node.hub.seats
         → IsNode (arc_value node.centre) (past_of node.log) hub parts → Keeps node mid hub parts
-    unlogged mid entries room same n = (rw entries n, rw same (room _ kept.1))
+    unlogged mid entries room same n = (
+      rw entries n,
+      rw same (room _ kept.1),
+      subst (λ (those : List Entry). IsLived (arc_value node.centre) (reverse those)) (sym entries)
+          kept.2,
+    )
+
+    -- an event that isn't refused is appended to what is lived
+    lived_on : {event is : EventKind} (who : ℕ) (new : LogState)
+        → new.entries ≡ node.log.entries ++ record { who = who; event = event } ∷ []
+        → event ≡ is → IsFree (seen_as node).setup (past_of node.log) who is
+        → IsLived (arc_value node.centre) (past_of new)
+    lived_on {event} {is} who new more e free =
+        subst (λ (past : Past). IsLived (arc_value node.centre) past)
+        (sym (ap (λ (those : List Entry). reverse those) more
+        ∙ reverse_push node.log.entries (record { who = who; event = event })
+        ∙ ap (λ (kind : EventKind).
+        let behind : Past = record { who = who; event = kind } ∷ past_of node.log in behind) e))
+        (unweighed_free (seen_as node).setup (past_of node.log) who is free, kept.2)
 
     -- an event for which there is room is appended
     pub ended : {hub : Hub} {parts : Parts} {event is : EventKind} (who : ℕ) (new : LogState)
         → event ≡ is → Appends node.log new who event
         → LeavesSeats is (hash_map_len node.hub.seats) (hash_map_len hub.seats)
         → MayAppend node.log who is (hash_map_len hub.seats)
+        → IsFree (seen_as node).setup (past_of node.log) who is
         → IsNode (arc_value node.centre) (record { who = who; event = is } ∷ past_of node.log) hub
         parts
         → Keeps node new hub parts
-    ended who new e more leaves may n = (
+    ended who new e more leaves may free n = (
       rw (more.entries, reverse_push, e) n,
       more.room _ _ kept.1 (rw e leaves) (rw e may),
+      lived_on who new more.entries e free,
     )
 
     -- an event that isn't ending and isn't refused, for which room is reserved, is appended
@@ -122,12 +144,15 @@ module _ (node : Inside) where
         → Keeps node new hub parts
     logged {hub} {parts} {now} {event} {is} who mid new count seen e free goes_on reserved more
         leaves counted n =
-        let fits = light-fits (seen_as node).setup (past_of node.log) is goes_on
-        (free_at who seen e free).light in (
+        let none = free_at who seen e free in
+        let fits = light-fits (seen_as node).setup (past_of node.log) is goes_on none.light in (
           rw (more.entries, reserved.entries, reverse_push, e) n,
           more.room _ _ (reserved.room _ kept.1) (rw e leaves)
               (rw e (MayAppend-reserved node.log mid who is _ goes_on reserved.limit
               reserved.entries fits (rw (← counted, ← e) reserved.ok))),
+          lived_on who new
+              (more.entries ∙ ap (λ (those : List Entry).
+              those ++ record { who = who; event = event } ∷ []) reserved.entries) e none,
         )
 
     -- the indexes as code of these rows finds them, at the clock's moment

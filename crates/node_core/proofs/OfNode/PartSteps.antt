@@ -23,6 +23,7 @@ use Rattle.tase_views.specs.View.{Seen, own, other_acted, other_closed, updated,
 use Rattle.tase_views.specs.View.{chose, ticked, stopped, View, force, held, keeps_force}
 use Rattle.tase_views.specs.View.{moment_in}
 use Rattle.tase_views.specs.Slots.{owns, sets_in, slot_moves}
+use Rattle.tase_views.specs.Listed.{defined_by}
 use Rattle.tase_views.specs.Reports.{reports_by}
 use Rattle.node_core.specs.declared.feeds.cause.ReportCause.{ReportCause}
 use Rattle.node_core.specs.declared.feeds.cause.ReportCause.TheVariants.{Tick, Ask}
@@ -35,7 +36,8 @@ use Rattle.node_core.specs.Feeds.SlotFeeds.{move_of, moment_before, AreReported}
 use Rattle.node_core.specs.PeerParts.{table_moves, opens_seen, AreAssociations, IsPart, no_sets}
 use Rattle.node_core.specs.PeerParts.{new_part, settled, part_after, IsLawfulAct}
 use Rattle.node_core.specs.PartFeeds.{IsAlike, IsReported}
-use Rattle.node_core.proofs.OfSlots.SetBooks.{IsBook-still, IsBook-defines, IsBook-deletes}
+use Rattle.node_core.proofs.OfSlots.SetBooks.{none_listed, IsBook-still, IsBook-defines}
+use Rattle.node_core.proofs.OfSlots.SetBooks.{IsBook-deletes}
 use Rattle.node_core.proofs.OfSlots.SlotBanks.{IsBank-new, IsBank-still, IsBank-unowned}
 use Rattle.node_core.proofs.OfSlots.SlotBanks.{IsBank-closes}
 use Rattle.node_core.proofs.OfSlots.SlotBanks.{IsBank-reads, IsBank-writes, IsBank-defines}
@@ -79,6 +81,7 @@ IsPart-new tables some = record {
     limit = refl;
     few = omega arith;
     members = λ name. refl;
+    listed = refl;
     once = λ i j d below within. absurd (omega arith);
     named = All-nil (λ (s : DataSet). IsIdentifier s.name);
     some = All-nil (λ (s : DataSet). 0 < length s.members);
@@ -116,12 +119,13 @@ IsPart-booked : (tables : OwnTables) (view : View) (part : Peer) (seen : Seen)
     → table_moves (seen ∷ view) ≡ table_moves view → opens_seen (seen ∷ view) ≡ opens_seen view
     → ((name : List ℕ) → sets_in tables (seen ∷ view) name
     ≡ (if keeps_force seen view then sets_in tables view name else None))
+    → defined_by tables view seen ≡ []
     → AreAssociations tables (seen ∷ view) those part.open_now part.opened_in_all
     → IsBank tables (seen ∷ view) slots → IsPart tables view part
     → IsPart tables (seen ∷ view) (record part { associations = those; slots = slots })
-IsPart-booked tables view part seen those slots same unopened shown a k p =
+IsPart-booked tables view part seen those slots same unopened shown adds a k p =
     IsPart-kept tables view part seen those part.book slots same unopened a
-    (IsBook-still tables view seen part.book (ap force_of same) shown p.sets) k p
+    (IsBook-still tables view seen part.book (ap force_of same) shown adds p.sets) k p
 
 -- ---- moves that bear on a table
 
@@ -149,11 +153,13 @@ IsBook-fresh : (tables : OwnTables) (view : View) (seen : Seen) (limit : ℕ)
     → limit ≡ (held tables (seen ∷ view)).sets → force (seen ∷ view) ≢ force view
     → ((name : List ℕ) → sets_in tables (seen ∷ view) name
     ≡ (if keeps_force seen view then sets_in tables view name else None))
-    → IsBook tables (seen ∷ view) (no_sets limit)
-IsBook-fresh tables view seen limit limit_is other shown = record {
+    → defined_by tables view seen ≡ [] → IsBook tables (seen ∷ view) (no_sets limit)
+IsBook-fresh tables view seen limit limit_is other shown adds = record {
   limit = limit_is;
   few = omega arith;
   members = λ name. sym (shown name ∙ rw (ne_eqb (force (seen ∷ view)) (force view) other) refl);
+  listed = none_listed tables view seen adds
+      (λ name. shown name ∙ rw (ne_eqb (force (seen ∷ view)) (force view) other) refl);
   once = λ i j d below within. absurd (omega arith);
   named = All-nil (λ (s : DataSet). IsIdentifier s.name);
   some = All-nil (λ (s : DataSet). 0 < length s.members);
@@ -164,11 +170,11 @@ IsPart-settled : (tables : OwnTables) (view : View) (seen : Seen) (move : TableM
     → part.opened_in_all ≡ opens_seen (seen ∷ view)
     → ((name : List ℕ) → sets_in tables (seen ∷ view) name
     ≡ (if keeps_force seen view then sets_in tables view name else None))
-    → IsUnsettled tables view move part
+    → defined_by tables view seen ≡ [] → IsUnsettled tables view move part
     → AreAssociations tables (seen ∷ view) part.associations part.open_now part.opened_in_all
     → IsBank tables (seen ∷ view) part.slots
     → IsPart tables (seen ∷ view) (settled tables part)
-IsPart-settled tables view seen move part moves in_all shown u open_ones bank =
+IsPart-settled tables view seen move part moves in_all shown adds u open_ones bank =
     by (part.open_now == 0) (part.chosen_last == part.variant) refl refl
   where
     forced : force (seen ∷ view) ≡ (if part.open_now == 0 then part.chosen_last else part.variant)
@@ -184,7 +190,7 @@ IsPart-settled tables view seen move part moves in_all shown u open_ones bank =
       force_there = u.force_there;
       last_there = u.last_there;
       open_ones = open_ones;
-      sets = IsBook-still tables view seen part.book (sym same ∙ u.before) shown u.sets;
+      sets = IsBook-still tables view seen part.book (sym same ∙ u.before) shown adds u.sets;
       slots = bank;
     }
 
@@ -205,7 +211,7 @@ IsPart-settled tables view seen move part moves in_all shown u open_ones bank =
       open_ones = open_ones;
       sets = IsBook-fresh tables view seen (table_in tables part.chosen_last).sets
           (ap (λ (n : ℕ). (table_in tables n).sets) same)
-          (λ e. other (same ∙ e ∙ sym u.before)) shown;
+          (λ e. other (same ∙ e ∙ sym u.before)) shown adds;
       slots = bank;
     }
 
@@ -282,10 +288,11 @@ module _ (tables : OwnTables) (o : AreOffered tables) (view : View) (part : Peer
       → opens_seen (seen ∷ view) ≡ opens_seen view
       → ((name : List ℕ) → sets_in tables (seen ∷ view) name
       ≡ (if keeps_force seen view then sets_in tables view name else None))
+      → defined_by tables view seen ≡ []
       → ((s : ℕ) → slot_moves tables (seen ∷ view) s ≡ slot_moves tables view s)
       → IsPart tables view part → IsPart tables (seen ∷ view) part
-  IsPart-still seen still same unopened shown moves p =
-      IsPart-booked tables view part seen part.associations part.slots same unopened shown
+  IsPart-still seen still same unopened shown adds moves p =
+      IsPart-booked tables view part seen part.associations part.slots same unopened shown adds
       (AreAssociations-still tables view seen still part.associations part.open_now
       part.opened_in_all (λ s ordinal e. inl (ap owner_in (sym (moves s)) ∙ e)) p.open_ones)
       (IsBank-still tables view seen part.slots (ap force_of same) shown moves p.slots) p
@@ -316,7 +323,7 @@ module _ (tables : OwnTables) (o : AreOffered tables) (view : View) (part : Peer
       force_while_open opened (table_moves view) (omega arith) in
       subst P kept
       (IsPart-settled tables view (own ordinal opens) opened after refl (omega (arith, p.in_all))
-      (λ name. refl)
+      (λ name. refl) refl
       (record {
         before = p.in_force;
         last = p.last;
@@ -339,7 +346,7 @@ module _ (tables : OwnTables) (o : AreOffered tables) (view : View) (part : Peer
       ap (λ (n : ℕ). n - 1) p.now_open in
       IsPart-settled tables view (own ordinal closes) closed
       (record part { open_now = part.open_now - 1; associations = those; slots = freed_slots })
-      refl p.in_all (λ name. refl)
+      refl p.in_all (λ name. refl) refl
       (record {
         before = p.in_force;
         last = p.last;
@@ -359,7 +366,7 @@ module _ (tables : OwnTables) (o : AreOffered tables) (view : View) (part : Peer
       (cases_eq (part.open_now - 1) 0)) p.slots)
   IsPart-after (chose variant) lawful p =
       IsPart-settled tables view (chose variant) (chosen variant)
-      (record part { chosen_last = variant }) refl p.in_all (λ name. refl)
+      (record part { chosen_last = variant }) refl p.in_all (λ name. refl) refl
       (record {
         before = p.in_force;
         last = refl;
@@ -392,14 +399,14 @@ module _ (tables : OwnTables) (o : AreOffered tables) (view : View) (part : Peer
       p.sets)
       (IsBank-deletes-set tables view part.slots ordinal set p.slots) p
   IsPart-after (own ordinal takes) lawful p =
-      IsPart-booked tables view part (own ordinal takes) _ part.slots refl refl (λ name. refl)
+      IsPart-booked tables view part (own ordinal takes) _ part.slots refl refl (λ name. refl) refl
       (AreAssociations-takes tables view ordinal part.associations part.open_now
       part.opened_in_all p.open_ones)
       (IsBank-still tables view (own ordinal takes) part.slots refl (λ name. refl) (λ s. refl)
       p.slots) p
   IsPart-after (own ordinal (reads name)) lawful p =
       IsPart-booked tables view part (own ordinal (reads name)) part.associations _ refl refl
-      (λ other. refl)
+      (λ other. refl) refl
       (acted (own ordinal (reads name)) tt
       (λ s owner e. ⊎_elim (λ before. inl before)
       (λ same. inr (ap (λ (n : ℕ). is_open_in n part.associations) (sym same) ∙ lawful.1))
@@ -409,7 +416,7 @@ module _ (tables : OwnTables) (o : AreOffered tables) (view : View) (part : Peer
       (IsBank-reads tables view part.slots p.slots ordinal name (o.few (force view)))) p
   IsPart-after (own ordinal (writes name value)) lawful p =
       IsPart-booked tables view part (own ordinal (writes name value)) part.associations _ refl
-      refl (λ other. refl)
+      refl (λ other. refl) refl
       (acted (own ordinal (writes name value)) tt
       (λ s owner e. inl (sym (owner_written _ (moment_in view) _ (slot_moves tables view s)) ∙ e))
       p)
@@ -419,18 +426,18 @@ module _ (tables : OwnTables) (o : AreOffered tables) (view : View) (part : Peer
       (IsBank-writes tables view part.slots p.slots part.book p.sets.members ordinal now name
       value at_now)) p
   IsPart-after (own ordinal (calls call)) lawful p =
-      IsPart-still (own ordinal (calls call)) tt refl refl (λ name. refl) (λ s. refl) p
+      IsPart-still (own ordinal (calls call)) tt refl refl (λ name. refl) refl (λ s. refl) p
   IsPart-after (other_acted key ordinal device act) lawful p =
-      IsPart-still (other_acted key ordinal device act) tt refl refl (λ name. refl) (λ s. refl) p
+      IsPart-still (other_acted key ordinal device act) tt refl refl (λ name. refl) refl (λ s. refl) p
   IsPart-after (other_closed key ordinal) lawful p =
-      IsPart-still (other_closed key ordinal) tt refl refl (λ name. refl) (λ s. refl) p
+      IsPart-still (other_closed key ordinal) tt refl refl (λ name. refl) refl (λ s. refl) p
   IsPart-after (updated name value) lawful p = absurd lawful
   IsPart-after (tagged name tag) lawful p =
-      IsPart-still (tagged name tag) tt refl refl (λ other. refl) (λ s. refl) p
+      IsPart-still (tagged name tag) tt refl refl (λ other. refl) refl (λ s. refl) p
   IsPart-after (asked slot) lawful p = absurd lawful
   IsPart-after (ticked moment) lawful p = absurd lawful
   IsPart-after stopped lawful p =
-      IsPart-still stopped tt refl refl (λ name. refl) (λ s. refl) p
+      IsPart-still stopped tt refl refl (λ name. refl) refl (λ s. refl) p
 
   -- ---- what the centre does
 
@@ -454,13 +461,13 @@ module _ (tables : OwnTables) (o : AreOffered tables) (view : View) (part : Peer
           (record part { associations = map with_drafted part.associations; slots = new.slots })
       by (Tick from to) before drafted slots p =
           IsPart-booked tables view part (ticked to) (map with_drafted part.associations)
-          new.slots refl refl (λ name. refl)
+          new.slots refl refl (λ name. refl) refl
           (AreAssociations-reported tables view (Tick from to) part.associations part.open_now
           part.opened_in_all late drafted p.open_ones)
           (IsBank-reported tables view (Tick from to) part.slots new.slots before slots p.slots) p
       by (Ask slot moment) before drafted slots p =
           IsPart-booked tables view part (asked slot) (map with_drafted part.associations)
-          new.slots refl refl (λ name. refl)
+          new.slots refl refl (λ name. refl) refl
           (AreAssociations-reported tables view (Ask slot moment) part.associations part.open_now
           part.opened_in_all late drafted p.open_ones)
           (IsBank-reported tables view (Ask slot moment) part.slots new.slots before slots
@@ -472,7 +479,7 @@ module _ (tables : OwnTables) (o : AreOffered tables) (view : View) (part : Peer
       → IsPart tables (updated name value ∷ view) (record part { slots = slots })
   IsPart-updated name value slots k p =
       IsPart-booked tables view part (updated name value) part.associations slots refl refl
-      (λ other. refl)
+      (λ other. refl) refl
       (acted (updated name value) tt
       (λ s owner e. inl (sym (owner_changed _ _ (slot_moves tables view s)) ∙ e)) p) k p
 

@@ -130,7 +130,7 @@ book_names sets = map (λ set. set.name) sets
 abbrev once_if : Bool → ℕ
 once_if b = if b then 1 else 0
 
-turned : (a b : List ℕ) → bytes_eq a b ≡ bytes_eq b a
+pub turned : (a b : List ℕ) → bytes_eq a b ≡ bytes_eq b a
 turned a b = by (bytes_eq a b) (bytes_eq b a) refl refl
   where
     by : (c d : Bool) → bytes_eq a b ≡ c → bytes_eq b a ≡ d → c ≡ d

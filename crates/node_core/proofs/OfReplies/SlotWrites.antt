@@ -230,8 +230,8 @@ module _ (rows : CentreRows) (lawful : IsCentre rows) (peer variant ordinal now 
         in_force = s.in_force;
         bank = IsBank-writes its_tables view slots s.bank book s.sets.members ordinal now name value
             s.moment;
-        sets = IsBook-still its_tables view (own ordinal (writes name value)) book refl (λ other. refl)
-            s.sets;
+        sets = IsBook-still its_tables view (own ordinal (writes name value)) book refl
+            (λ other. refl) refl s.sets;
         moment = s.moment;
         many = asked_many its_key asked devices ∙ s.many;
         ranged = asked_ranged rows (held its_tables view) now its_key asked devices s.ranged;

@@ -1,13 +1,15 @@
 -- The data sets that a book keeps behind one more move that its peer sees.
 use Rattle.std.proofs.Common.{◌≡◌, ◌≢◌, ◌==◌, ℕ, ◌<◌, ◌≤◌, ltb, leb, Bool, true, false, not}
 use Rattle.std.proofs.Common.{◌&&◌, List, [], ◌∷◌, ◌++◌, length, Option, Some, None, is_some}
-use Rattle.std.proofs.Common.{bytes_eq, refl, sym, ap, subst, ◌∙◌, arith, length-append}
-use Rattle.std.specs.Prelude.{if◌then◌else◌}
+use Rattle.std.proofs.Common.{bytes_eq, refl, sym, ap, subst, ◌∙◌, inl, inr, arith, length-append}
+use Rattle.std.specs.Prelude.{◌⊎◌, if◌then◌else◌, is_none}
 use Rattle.std.specs.List.{All, filter, find}
 use Rattle.std.specs.Option.{option_map}
 use Rattle.std.proofs.lemmas.Bool.{false≢true, true≢false, or_parts, leb-false, eq-eqb}
 use Rattle.std.proofs.lemmas.Option.{none-some}
-use Rattle.std.proofs.lemmas.List.Elements.{All-nil, All-cons, All-append, All-filter}
+use Rattle.std.proofs.lemmas.List.{append-nil}
+use Rattle.std.proofs.lemmas.List.Elements.{All-nil, All-cons, All-head, All-tail, All-append}
+use Rattle.std.proofs.lemmas.List.Elements.{All-filter, All-weaker, filter_agree}
 use Rattle.std.proofs.lemmas.List.Filters.{length-filter_both}
 use Rattle.std.proofs.lemmas.List.Kept.{AllPairs-filter}
 use Rattle.std.proofs.lemmas.List.Quantifiers.{all_pairs_push}
@@ -23,11 +25,84 @@ use Rattle.tase_views.specs.Moves.{Act, defines, deletes}
 use Rattle.tase_views.specs.View.{View, Seen, own, force, held, keeps_force}
 use Rattle.tase_views.specs.Sets.{SetError, define_fault, set_behind}
 use Rattle.tase_views.specs.Slots.{is_wished, sets_in, slot_moves}
+use Rattle.tase_views.specs.Listed.{defined_by, sets_listed}
 use Rattle.node_core.specs.Slots.SetsKept.{IsBook, left_behind}
 use Rattle.node_core.specs.Slots.SlotsKept.{IsBank, is_kept}
 use Rattle.node_core.specs.PeerParts.{fault_in, book_defined, IsLawfulAct}
+use Rattle.node_core.proofs.OfObjects.SetNames.{turned}
 use Rattle.node_core.proofs.OfSlots.Kept.{kept_wished}
 use Rattle.node_core.proofs.OfSlots.Faults.{is_own, exceeds, fits, fault_told, faultless}
+
+-- ---- the list of those that there are
+
+-- each is found by its name
+found_each : (sets : List DataSet)
+    → All (λ (s : DataSet). is_some (members_in sets s.name) ≡ true) sets
+found_each [] = All-nil (λ (s : DataSet). is_some (members_in [] s.name) ≡ true)
+found_each (set ∷ sets) =
+    All-cons (λ (s : DataSet). is_some (members_in (set ∷ sets) s.name) ≡ true) set sets
+    (by (bytes_eq set.name set.name) (find (is_set_named set.name) sets)
+    (inl ((bytes_eq-Decides set.name set.name).1 refl)))
+    (All-weaker (λ (s : DataSet). is_some (members_in sets s.name) ≡ true)
+    (λ (s : DataSet). is_some (members_in (set ∷ sets) s.name) ≡ true)
+    (λ s found. by (bytes_eq set.name s.name) (find (is_set_named s.name) sets) (inr found)) sets
+    (found_each sets))
+  where
+    by : (c : Bool) (found : Option DataSet)
+        → (c ≡ true) ⊎ (is_some (option_map (λ (s : DataSet). s.members) found) ≡ true)
+        → is_some (option_map (λ (s : DataSet). s.members) (if c then Some set else found)) ≡ true
+    by true found either = refl
+    by false found (inl never) = absurd (false≢true never)
+    by false found (inr there) = there
+
+filter_alike : (p q : DataSet → Bool) (sets : List DataSet)
+    → All (λ (s : DataSet). p s ≡ q s) sets → filter p sets ≡ filter q sets
+filter_alike p q [] same = refl
+filter_alike p q (set ∷ sets) same =
+    rw (
+      All-head (λ (s : DataSet). p s ≡ q s) set sets same,
+      filter_alike p q sets (All-tail (λ (s : DataSet). p s ≡ q s) set sets same),
+    ) refl
+
+all_stay : (sets : List DataSet) → filter (λ (s : DataSet). true) sets ≡ sets
+all_stay [] = refl
+all_stay (set ∷ sets) = ap (λ (rest : List DataSet). set ∷ rest) (all_stay sets)
+
+none_stay : (sets : List DataSet) → filter (λ (s : DataSet). false) sets ≡ []
+none_stay [] = refl
+none_stay (set ∷ sets) = none_stay sets
+
+-- behind a move: those of the book that stay, and behind them what the move defines
+listed_behind : (tables : OwnTables) (view : View) (seen : Seen) (book : Book)
+    (stays : DataSet → Bool) (new : List DataSet) → defined_by tables view seen ≡ new
+    → ((set : DataSet) → is_some (sets_in tables view set.name) ≡ true
+    → is_some (sets_in tables (seen ∷ view) set.name) ≡ stays set)
+    → IsBook tables view book
+    → filter stays book.sets ++ new ≡ sets_listed tables (seen ∷ view)
+listed_behind tables view seen book stays new adds left b =
+    let there = λ (set : DataSet). is_some (sets_in tables (seen ∷ view) set.name) in
+    let alike : filter there book.sets ≡ filter stays book.sets =
+    filter_alike there stays book.sets
+    (All-weaker (λ (s : DataSet). is_some (members_in book.sets s.name) ≡ true)
+    (λ (s : DataSet). there s ≡ stays s)
+    (λ s found. left s (ap (λ (o : Option (List ObjectName)). is_some o) (sym (b.members s.name))
+    ∙ found)) book.sets (found_each book.sets)) in
+    ap (λ (sets : List DataSet). sets ++ new) (sym alike)
+    ∙ ap (λ (sets : List DataSet). filter there sets ++ new) b.listed
+    ∙ ap (λ (sets : List DataSet). filter there (sets_listed tables view) ++ sets) (sym adds)
+
+-- where another table comes into force
+pub none_listed : (tables : OwnTables) (view : View) (seen : Seen)
+    → defined_by tables view seen ≡ []
+    → ((name : List ℕ) → sets_in tables (seen ∷ view) name ≡ None)
+    → [] ≡ sets_listed tables (seen ∷ view)
+none_listed tables view seen adds gone =
+    let there = λ (set : DataSet). is_some (sets_in tables (seen ∷ view) set.name) in
+    let left : filter there (sets_listed tables view) ≡ [] =
+    filter_agree there (λ (s : DataSet). false)
+    (λ s. ap (λ (o : Option (List ObjectName)). is_some o) (gone s.name)) (sets_listed tables view)
+    ∙ none_stay (sets_listed tables view) in
+    sym (ap (λ (sets : List DataSet). sets ++ defined_by tables view seen) left ∙ adds)
 
 -- ---- moves that leave the data sets
 
@@ -36,12 +111,17 @@ pub IsBook-still : (tables : OwnTables) (view : View) (seen : Seen) (book : Book
     → force (seen ∷ view) ≡ force view
     → ((name : List ℕ) → sets_in tables (seen ∷ view) name
     ≡ (if keeps_force seen view then sets_in tables view name else None))
+    → defined_by tables view seen ≡ []
     → IsBook tables view book → IsBook tables (seen ∷ view) book
-IsBook-still tables view seen book same shown b = record {
+IsBook-still tables view seen book same shown adds b = record {
   limit = b.limit ∙ sym (ap (λ (n : ℕ). (table_in tables n).sets) same);
   few = subst (λ (n : ℕ). length book.sets ≤ (table_in tables n).sets) (sym same) b.few;
   members = λ name. b.members name
       ∙ sym (shown name ∙ rw (eq-eqb (force (seen ∷ view)) (force view) same) refl);
+  listed = sym (append-nil _ ∙ all_stay book.sets)
+      ∙ listed_behind tables view seen book (λ s. true) [] adds
+      (λ s there. ap (λ (o : Option (List ObjectName)). is_some o)
+      (shown s.name ∙ rw (eq-eqb (force (seen ∷ view)) (force view) same) refl) ∙ there) b;
   once = b.once;
   named = b.named;
   some = b.some;
@@ -143,6 +223,17 @@ module _ (tables : OwnTables) (view : View) (book : Book) (ordinal : ℕ) (set :
     few = omega (arith, room, length-append book.sets (new_set set.item members ∷ []));
     members = λ name. by name (bytes_eq set.item name) refl
         ∙ sym (set_shown tables view ordinal (defines set members) name refl ∙ rw fault refl);
+    listed = ap (λ (sets : List DataSet). sets ++ new_set set.item members ∷ [])
+        (sym (all_stay book.sets))
+        ∙ listed_behind tables view (own ordinal (defines set members)) book (λ s. true)
+        (new_set set.item members ∷ [])
+        (ap (λ (o : Option SetError). if is_none o then new_set set.item members ∷ [] else [])
+        fault)
+        (λ s there. ap (λ (o : Option (List ObjectName)). is_some o)
+        (set_shown tables view ordinal (defines set members) s.name refl)
+        ∙ some_either (bytes_eq set.item s.name
+        && is_none (define_fault (held tables view) (sets_in tables view) view set members))
+        (sets_in tables view s.name) there) b;
     once = all_pairs_push (λ (x y : DataSet). x.name ≢ y.name) book.sets
         (new_set set.item members) b.once (others_named set.item book.sets none);
     named = All-append (λ (s : DataSet). IsIdentifier s.name) book.sets
@@ -165,6 +256,11 @@ module _ (tables : OwnTables) (view : View) (book : Book) (ordinal : ℕ) (set :
       by name false e =
           found_before name book.sets (new_set set.item members) e ∙ b.members name
 
+      some_either : (c : Bool) (found : Option (List ObjectName)) → is_some found ≡ true
+          → is_some (if c then Some members else found) ≡ true
+      some_either true found there = refl
+      some_either false found there = there
+
   -- it is just what the book makes of a definition
   defined-is : is_some (members_in book.sets set.item) ≡ false
       → exceeds (held tables view) book members ≡ false
@@ -183,7 +279,9 @@ module _ (tables : OwnTables) (view : View) (book : Book) (ordinal : ℕ) (set :
   defines_by (Some error) e lawful =
       IsBook-still tables view (own ordinal (defines set members)) book refl
       (λ name. rw (fault_alike tables view book set members b ∙ e)
-      (by (bytes_eq set.item name) (sets_in tables view name) (force view == force view))) b
+      (by (bytes_eq set.item name) (sets_in tables view name) (force view == force view)))
+      (ap (λ (o : Option SetError). if is_none o then new_set set.item members ∷ [] else [])
+      (fault_alike tables view book set members b ∙ e)) b
     where
       by : (c : Bool) (found : Option (List ObjectName)) (kept : Bool)
           → (if kept then (if c && false then Some members else found) else None)
@@ -290,6 +388,11 @@ module _ (tables : OwnTables) (view : View) (book : Book) (ordinal : ℕ) (set :
       ∙ ap (λ (t : Bool). if t then (if bytes_eq set.item name then None
       else sets_in tables view name) else sets_in tables view name) takes
 
+  stays_there : (c d : Bool) (found : Option (List ObjectName)) → c ≡ d → is_some found ≡ true
+      → is_some (if c then None else found) ≡ not d
+  stays_there c true found same there = rw same refl
+  stays_there c false found same there = rw same there
+
   -- a name of the domain takes the data set with this name away, unless it is wished
   deleted_by : (c : Bool) → takes_away ≡ c
       → IsBook tables (own ordinal (deletes set) ∷ view)
@@ -306,6 +409,12 @@ module _ (tables : OwnTables) (view : View) (book : Book) (ordinal : ℕ) (set :
         ∙ ap (λ (found : Option (List ObjectName)). if bytes_eq set.item name then None else found)
         (b.members name)
         ∙ sym (shown name true takes);
+    listed = sym (append-nil _)
+        ∙ listed_behind tables view (own ordinal (deletes set)) book
+        (λ s. not (is_set_named set.item s)) [] refl
+        (λ s there. ap (λ (o : Option (List ObjectName)). is_some o) (shown s.name true takes)
+        ∙ stays_there (bytes_eq set.item s.name) (bytes_eq s.name set.item)
+        (sets_in tables view s.name) (turned set.item s.name) there) b;
     once = AllPairs-filter (λ (x y : DataSet). x.name ≢ y.name)
         (λ s. not (is_set_named set.item s)) book.sets b.once;
     named = All-filter (λ s. not (is_set_named set.item s))
@@ -316,7 +425,8 @@ module _ (tables : OwnTables) (view : View) (book : Book) (ordinal : ℕ) (set :
   -- another name takes none away
   deleted_by false takes =
       IsBook-still tables view (own ordinal (deletes set)) book refl
-      (λ name. shown name false takes ∙ sym (rw (eq-eqb (force view) (force view) refl) refl)) b
+      (λ name. shown name false takes ∙ sym (rw (eq-eqb (force view) (force view) refl) refl))
+      refl b
 
 -- a deletion
 pub IsBook-deletes : (tables : OwnTables) (view : View) (book : Book) (slots : List OwnedSlot)

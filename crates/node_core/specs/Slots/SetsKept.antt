@@ -8,14 +8,16 @@ use Rattle.data_sets.specs.Books.{Book, members_in, deleted}
 use Rattle.tase_views.specs.OwnTables.{OwnTables}
 use Rattle.tase_views.specs.View.{View, held}
 use Rattle.tase_views.specs.Slots.{sets_in}
+use Rattle.tase_views.specs.Listed.{sets_listed}
 
--- a book has the data sets that the view of a peer with these tables shows, each once, and as many
--- may stand in it as the table in force allows; names are identifiers, and each data set has a
--- member
+-- a book has the data sets that the view of a peer with these tables shows, each once and in the
+-- order in which they were defined, and as many may stand in it as the table in force allows; names
+-- are identifiers, and each data set has a member
 pub record IsBook (tables : OwnTables) (view : View) (book : Book) : Type 0 where
   pub limit : book.limit ≡ (held tables view).sets
   pub few : length book.sets ≤ (held tables view).sets
   pub members : (name : List ℕ) → members_in book.sets name ≡ sets_in tables view name
+  pub listed : book.sets ≡ sets_listed tables view
   pub once : AllPairs (λ a b. a.name ≢ b.name) book.sets
   pub named : All (λ set. IsIdentifier set.name) book.sets
   pub some : All (λ set. 0 < length set.members) book.sets

@@ -92,7 +92,7 @@ fn operand_of(value: &MmsData) -> Option<i64>
 }
 
 /// What a write of a device's tag asks, by the table's row for the device.
-fn read_tagging(control: &Control, value: &MmsData) -> Result<Asked, AllocError>
+pub fn read_tagging(control: &Control, value: &MmsData) -> Result<Asked, AllocError>
     ensures value { IfOk result (λ asked. asked
         ≡ tagging_asked control.now.device control.now.tag value.now) }
     ensures there { (count : ℕ) → control.now.device < count

@@ -117,6 +117,7 @@ invariant_of-self c =
     ended c.self.inside c.self.invariant c.args.who c.append.new.self c.requires.close
     c.append.ensures
     (c.unseat.ensures.count (ap is_some (sym c.association.ensures ∙ c.unwrap-key.ensures))) tt
+    (free_at c.self.inside c.args.who c.self.view_is c.requires.close c.requires.free)
     (IsNode-close _ _ _ _ c.self.invariant.0 c.args.who _ c.rebuild.new.self key seat.0
     (ap (λ (p : Plant). p.points) c.unseat.ensures.plant)
     (c.close.ensures ∙ ap (λ (p : Plant). record p.devices {

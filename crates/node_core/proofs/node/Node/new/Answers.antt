@@ -1,8 +1,10 @@
-use Rattle.std.proofs.Common.{◌≡◌, [], map, sym, subst, arith}
+use Rattle.std.proofs.Common.{◌≡◌, List, [], map, reverse, sym, subst, arith}
 use Rattle.std.specs.Arc.{arc_value}
 use Rattle.point_db.specs.Stored.{Keeps as KeepsPoints}
 use Rattle.bilateral.specs.declared.rows.Table.{Table}
 use Rattle.bilateral.specs.Rows.{CentreRows, IsCentre}
+use Rattle.tase_views.specs.declared.event.Entry.{Entry}
+use Rattle.tase_views.specs.Lived.{IsLived}
 use Rattle.node_core.specs.Devices.DeviceBanks.{IsDeviceBank}
 use Rattle.node_core.specs.LastValues.{kinds_of}
 use Rattle.node_core.specs.PeerParts.{new_part}
@@ -36,4 +38,6 @@ invariant_of-result c =
     } in (
       rw c.in_ok-log.ensures.entries start,
       rw c.in_ok-hub.ensures.none c.in_ok-log.ensures.room,
+      subst (λ (those : List Entry). IsLived rows (reverse those)) (sym c.in_ok-log.ensures.entries)
+          tt,
     )

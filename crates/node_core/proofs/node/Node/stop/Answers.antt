@@ -33,6 +33,6 @@ pub invariant_of-self : goal.invariant_of-self
 invariant_of-self c =
     let free = free_at c.self.inside c.args.who c.self.view_is c.requires.stop c.requires.free in
     ended c.self.inside c.self.invariant c.args.who c.append.new.self c.requires.stop
-    c.append.ensures refl (going-still (past_of c.self.inside.log) Stop refl free.going)
+    c.append.ensures refl (going-still (past_of c.self.inside.log) Stop refl free.going) free
     (IsNode-stop _ _ _ _ c.self.invariant.0 c.args.who c.self.inside.hub c.self.inside.parts refl
     refl)
