@@ -1,3 +1,4 @@
+pub mod Becoming
 pub mod Callers
 pub mod HeardSteps
 pub mod Numbering
@@ -6,3 +7,4 @@ pub mod Standing
 pub mod StepsOn
 pub mod Turned
 pub mod OfService
+pub mod Exchanged

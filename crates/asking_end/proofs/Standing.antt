@@ -42,10 +42,10 @@ request_behind-most number = one (nat_lt number LAST_INVOKE) refl
     one false is = omega arith
 
 -- the calling end of a turn
-abbrev asked_so : {A E : Type 0} → AskTurn A E → Asker A
+abbrev pub asked_so : {A E : Type 0} → AskTurn A E → Asker A
 asked_so m = m.0
 
-went-number : {A E : Type 0} (agenda : A) (next : Next E) (p : Asker A) → HasNumber p
+pub went-number : {A E : Type 0} (agenda : A) (next : Next E) (p : Asker A) → HasNumber p
     → HasNumber (asked_so (went_on agenda next p))
 went-number agenda nexts.Wait p h = h
 went-number agenda nexts.Ask p h = request_behind-most p.last
@@ -53,7 +53,7 @@ went-number agenda nexts.Conclude p h = h
 went-number agenda (nexts.End end) p h = h
 
 module _ {A E I : Type 0} (acts : AgendaActs A E I) where
-  reply-number : (number : Option ℕ) (reply : ReplyKind) (p : Asker A) → HasNumber p
+  pub reply-number : (number : Option ℕ) (reply : ReplyKind) (p : Asker A) → HasNumber p
       → HasNumber (asked_so (reply_heeded acts number reply p))
   reply-number number reply p h = one (is_awaited (number_awaited p) number)
     where
@@ -63,7 +63,7 @@ module _ {A E I : Type 0} (acts : AgendaActs A E I) where
           (acts.replied p.last reply p.agenda).1 p h
       one false = h
 
-  report-number : (awaiting : Awaiting) (report : ReportKind) (p : Asker A) → HasNumber p
+  pub report-number : (awaiting : Awaiting) (report : ReportKind) (p : Asker A) → HasNumber p
       → HasNumber (asked_so (report_counted acts awaiting report p))
   report-number awaits.Nothing report p h =
       went-number (acts.reported report p.agenda).0 (acts.reported report p.agenda).1 p h
@@ -72,7 +72,7 @@ module _ {A E I : Type 0} (acts : AgendaActs A E I) where
   report-number awaits.Conclusion report p h = h
   report-number awaits.Release report p h = h
 
-  concluded-number : (awaiting : Awaiting) (p : Asker A) → HasNumber p
+  pub concluded-number : (awaiting : Awaiting) (p : Asker A) → HasNumber p
       → HasNumber (asked_so (concluded_for acts awaiting p))
   concluded-number awaits.Conclusion p h = h
   concluded-number awaits.Association p h = h

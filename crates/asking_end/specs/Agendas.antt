@@ -25,3 +25,12 @@ pub record AgendaActs (A E I : Type 0) : Type 0 where
 -- items begin with these, as they do when memory ran out while more were being appended
 abbrev pub ShowsFirst : {I : Type 0} → List I → List I → Type 0
 ShowsFirst old new = take (length old) new ≡ old
+
+-- what an agenda may become by what it does, one after another
+pub data Becomes {A E I : Type 0} (acts : AgendaActs A E I) (old : A) : A → Type 0 where
+  as_before : Becomes acts old old
+  by_begin : (now : A) → Becomes acts old now → Becomes acts old (acts.begun now).0
+  by_reply : (now : A) (number : ℕ) (reply : ReplyKind) → Becomes acts old now
+      → Becomes acts old (acts.replied number reply now).0
+  by_report : (now : A) (report : ReportKind) → Becomes acts old now
+      → Becomes acts old (acts.reported report now).0

@@ -25,7 +25,8 @@ pub trait Agenda: Drop {
         ensures next { result ≡ (acts.begun self.old).1 };
 
     /// Hears the reply to its call, which was asked by this number, and appends what is shown of
-    /// it. After want of memory the association has ended, and what was appended is cut off.
+    /// it. After want of memory it is as before, the association has ended, and what was appended
+    /// is cut off.
     fn hear_reply(
         &mut self,
         alloc: Global,
@@ -38,6 +39,7 @@ pub trait Agenda: Drop {
             next ≡ (acts.replied number reply.now self.old).1) }
         ensures shown { OnOk result (shown.new.items
             ≡ shown.old.items ++ acts.reply_shown number reply.now self.old) }
+        ensures same { OnErr result (self.new ≡ self.old) }
         ensures cut { OnErr result (ShowsFirst shown.old.items shown.new.items) };
 
     /// Appends what is shown of a report, whatever is awaited. After want of memory the

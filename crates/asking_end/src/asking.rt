@@ -4,6 +4,7 @@ ghost use Rattle.std.specs.Prelude.{IfOk, OnOk, OnErr, unwrap_or};
 ghost use Rattle.tpkt_cotp.specs.declared.limits.TheConstants.{PIECE_LIMIT};
 ghost use Rattle.asking_end.specs.declared.end.AskEnd.{AskEnd as AnyEnd};
 ghost use Rattle.asking_end.specs.declared.end.AskEnd.TheVariants as ends;
+ghost use Rattle.asking_end.specs.Agendas.{Becomes};
 ghost use Rattle.asking_end.specs.Askers.{asker_of};
 ghost use Rattle.asking_end.specs.Callers.{AskerStands, TakesPiece};
 
@@ -68,6 +69,8 @@ impl<A: Agenda> AskingEnd<A> {
             → OnOk result (TakesPiece A.acts title agenda octets piece.now
             out.old.items out.new.items shown.old.items shown.new.items self.new) }
         ensures end { IfOk result (λ end. end ≡ self.new.end) }
+        // Also where memory ran out, its agenda is what it has become by what it heard.
+        ensures agenda { Becomes A.acts self.old.asker.agenda self.new.asker.agenda }
         // Once it has ended nothing changes.
         ensures over { (end : AnyEnd A.End) → self.old.end ≡ Some end → result ≡ Ok (Some end) }
         ensures still { (end : AnyEnd A.End) → self.old.end ≡ Some end → self.new ≡ self.old }

@@ -7,7 +7,7 @@ ghost use Rattle.stack_assoc.specs.declared.input.StackState.TheVariants as stat
 ghost use Rattle.stack_assoc.specs.Courses.{is_offered, IsCourseSettled, stack_state_of};
 ghost use Rattle.stack_assoc.specs.Steps.{left_of};
 ghost use Rattle.asking_end.specs.declared.end.AskEnd.TheVariants as ends;
-ghost use Rattle.asking_end.specs.Agendas.{ShowsFirst};
+ghost use Rattle.asking_end.specs.Agendas.{ShowsFirst, Becomes};
 ghost use Rattle.asking_end.specs.Asking.{HasNumber, awaited_said, request_awaited};
 ghost use Rattle.asking_end.specs.Hearings as heard;
 ghost use Rattle.asking_end.specs.Sayings.{pdu_said};
@@ -61,6 +61,7 @@ impl<A: Agenda> CallingEnd<A, A::End> {
             (step : AskerStep A A.End A.Item)
             → own.Hears A.acts title agenda octets step self.old
             → OnOk result (own.Hears A.acts title agenda (octets ++ piece.now) step self.new) }
+        ensures asker { self.new.asker ≡ self.old.asker }
         ensures err { OnErr result (self.new.end ≡ Some ends.Memory) }
     {
         match self.stack.feed(piece) {
@@ -86,6 +87,7 @@ impl<A: Agenda> CallingEnd<A, A::End> {
             → own.Hears A.acts title agenda octets step self.old
             → OnOk result (own.HeardOn false A.acts title agenda octets step
             out.old.items out.new.items shown.old.items shown.new.items self.new) }
+        ensures agenda { Becomes A.acts self.old.asker.agenda self.new.asker.agenda }
         ensures err { OnErr result (self.new.end ≡ Some ends.Memory) }
         ensures out { OnErr result (out.new.items ≡ out.old.items) }
         ensures shown { OnErr result (shown.new.items ≡ shown.old.items) }
@@ -116,6 +118,7 @@ impl<A: Agenda> CallingEnd<A, A::End> {
             → own.Hears A.acts title agenda octets step self.old
             → OnOk result (own.HeardOn false A.acts title agenda octets step
             out.old.items out.new.items shown.old.items shown.new.items self.new) }
+        ensures agenda { Becomes A.acts self.old.asker.agenda self.new.asker.agenda }
         ensures out { OnErr result (Extends out.old.items out.new.items) }
         ensures shown { OnErr result (ShowsFirst shown.old.items shown.new.items) }
     {
@@ -136,6 +139,7 @@ impl<A: Agenda> CallingEnd<A, A::End> {
             → own.Hears A.acts title agenda octets step self.old
             → IfOk result (λ more. own.HeardOn more A.acts title agenda octets step
             out.old.items out.new.items shown.old.items shown.new.items self.new) }
+        ensures agenda { Becomes A.acts self.old.asker.agenda self.new.asker.agenda }
         ensures shorter { IfOk result (λ more. more ≡ true
             → left_of self.new.stack < left_of self.old.stack) }
         ensures out { OnErr result (Extends out.old.items out.new.items) }
@@ -170,6 +174,7 @@ impl<A: Agenda> CallingEnd<A, A::End> {
             ≡ (heard.input_heeded A.acts input self.old.asker).1) }
         ensures shown { OnOk result
             (shown.new.items ≡ shown.old.items ++ heard.input_shown A.acts input self.old.asker) }
+        ensures same { OnErr result (self.new ≡ self.old) }
         ensures cut { OnErr result (ShowsFirst shown.old.items shown.new.items) }
     {
         let next = self.asker.hear(alloc, &input, shown)?;
@@ -186,6 +191,7 @@ impl<A: Agenda> CallingEnd<A, A::End> {
         requires { own.MayMove next self.old }
         ensures more { IfOk result (λ more. more ≡ own.goes_on next) }
         ensures ok { OnOk result (self.new ≡ own.moved_on A.acts next self.old) }
+        ensures asker { self.new.asker ≡ self.old.asker }
         ensures out { OnOk result
             (out.new.items ≡ out.old.items ++ own.move_said A.acts next self.old) }
         ensures err { OnErr result (out.new.items ≡ out.old.items) }
@@ -207,6 +213,7 @@ impl<A: Agenda> CallingEnd<A, A::End> {
     fn say(&mut self, alloc: Global, out: &mut Vec<u8>) -> Result<(), AllocError>
         requires { own.MaySay self.old }
         ensures ok { OnOk result (self.new ≡ own.awaiting_answer A.acts self.old) }
+        ensures asker { self.new.asker ≡ self.old.asker }
         ensures out { OnOk result (out.new.items ≡ out.old.items
             ++ awaited_said A.acts self.old.stack.setup self.old.asker.awaiting
             self.old.asker) }
@@ -234,6 +241,7 @@ impl<A: Agenda> CallingEnd<A, A::End> {
     fn say_request(&mut self, alloc: Global, out: &mut Vec<u8>) -> Result<(), AllocError>
         requires number { HasNumber self.old.asker }
         requires accepted { stack_state_of self.old.stack ≡ states.Accepted }
+        ensures asker { self.new.asker ≡ self.old.asker }
         ensures ok { OnOk result (self.new ≡ record self.old {
           stack = own.course_saying (request_awaited A.acts self.old.asker)
               self.old.stack;

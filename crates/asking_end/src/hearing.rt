@@ -35,6 +35,7 @@ impl<A: Agenda> Asker<A> {
             ≡ (heard.input_heeded A.acts input.now self.old).1) }
         ensures shown { OnOk result
             (shown.new.items ≡ shown.old.items ++ heard.input_shown A.acts input.now self.old) }
+        ensures same { OnErr result (self.new ≡ self.old) }
         ensures cut { OnErr result (ShowsFirst shown.old.items shown.new.items) }
     {
         match input {
@@ -78,6 +79,7 @@ impl<A: Agenda> Asker<A> {
             ≡ (heard.replied_heeded A.acts pdu.now (maps.reply_in pdu.now) self.old).1) }
         ensures shown { OnOk result (shown.new.items ≡ shown.old.items
             ++ heard.pdu_shown A.acts pdu.now (maps.reply_in pdu.now) self.old) }
+        ensures same { OnErr result (self.new ≡ self.old) }
         ensures cut { OnErr result (ShowsFirst shown.old.items shown.new.items) }
     {
         match reply_of(alloc, pdu)? {
@@ -100,6 +102,7 @@ impl<A: Agenda> Asker<A> {
             ≡ (own.reply_heeded A.acts number reply.now self.old).1) }
         ensures shown { OnOk result (shown.new.items ≡ shown.old.items
             ++ heard.reply_shown A.acts number reply.now self.old) }
+        ensures same { OnErr result (self.new ≡ self.old) }
         ensures cut { OnErr result (ShowsFirst shown.old.items shown.new.items) }
     {
         if self.awaits(number) {
@@ -121,6 +124,7 @@ impl<A: Agenda> Asker<A> {
             ≡ (own.answered A.acts reply.now self.old).1) }
         ensures shown { OnOk result (shown.new.items ≡ shown.old.items
             ++ A.acts.reply_shown self.old.last reply.now self.old.agenda) }
+        ensures same { OnErr result (self.new ≡ self.old) }
         ensures cut { OnErr result (ShowsFirst shown.old.items shown.new.items) }
     {
         let next = self.agenda.hear_reply(alloc, self.last, reply, shown)?;
@@ -141,6 +145,7 @@ impl<A: Agenda> Asker<A> {
             ≡ (heard.unreplied_heeded A.acts pdu.now (maps.report_in pdu.now) self.old).1) }
         ensures shown { OnOk result (shown.new.items ≡ shown.old.items
             ++ heard.report_shown A.acts (maps.report_in pdu.now) self.old) }
+        ensures same { OnErr result (self.new ≡ self.old) }
         ensures cut { OnErr result (ShowsFirst shown.old.items shown.new.items) }
     {
         match report_of(alloc, pdu)? {
@@ -162,6 +167,7 @@ impl<A: Agenda> Asker<A> {
             ≡ (own.report_heeded A.acts report.now self.old).1) }
         ensures shown { OnOk result (shown.new.items
             ≡ shown.old.items ++ A.acts.report_shown report.now self.old.agenda) }
+        ensures same { OnErr result (self.new ≡ self.old) }
         ensures cut { OnErr result (ShowsFirst shown.old.items shown.new.items) }
     {
         self.agenda.show_report(alloc, report, shown)?;

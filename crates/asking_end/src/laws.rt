@@ -14,7 +14,12 @@ ghost use Rattle.asking_end.specs.declared.asker.Asker.{Asker as AnyAsker};
 ghost use Rattle.asking_end.specs.Asking.{request_behind, IsNumbered};
 ghost use Rattle.asking_end.specs.Hearings.{input_heeded};
 ghost use Rattle.asking_end.specs.Askers.{AskerStep, HasHeard, asker_behind, step_then};
-ghost use Rattle.asking_end.specs.Askers.{broken_step};
+ghost use Rattle.asking_end.specs.Askers.{asker_steps, asker_start, broken_step};
+ghost use Rattle.asking_end.specs.Exchanges.{Admission, admitted, answers_heard, AsksSoOften};
+ghost use Rattle.asking_end.specs.Exchanges.{FinishesBy};
+ghost use Rattle.tase_views.specs.declared.reply.ReplyKind.{ReplyKind};
+
+use tase_conn::map::replies_are_pdus;
 
 /// What all octets that have come make of a calling end is what the messages that they tell make of
 /// it, one after another: all of them, where they leave a rest; those before the rule that is
@@ -43,3 +48,17 @@ pub fn requests_are_numbered<A, E, I>()
         → IsNumbered (input_heeded acts input p).1 p (input_heeded acts input p).0 }
     ensures rises { (number : ℕ) → number < LAST_INVOKE → request_behind number ≡ number + 1 }
 {}
+
+/// A peer that answers: where an agenda asks on by each of so many replies and concludes by the
+/// next, a calling end that hears these, one to each of its requests, then the answers to its
+/// conclude and to its finish, has finished. It has heard all of them, has said each request once
+/// the one before was answered, and has shown what the agenda shows of the replies.
+pub fn answered_agendas_finish<A, E, I>()
+    ensures { (acts : AgendaActs A E I) (agenda : A) (replies : ℕ → ReplyKind)
+        (title : Option (List ℕ)) (a : Admission) (count : ℕ)
+        → AsksSoOften acts agenda replies count → FinishesBy acts agenda replies title a count
+        (asker_steps acts (admitted a (answers_heard replies 0 count))
+        (asker_start acts title agenda)) }
+{
+    replies_are_pdus();
+}

@@ -18,6 +18,6 @@ pub use asker::{AskMove, Asker, Awaiting};
 pub use asking::AskingEnd;
 pub use calling::CallingEnd;
 pub use end::AskEnd;
-pub use laws::{octets_make_an_asking_end, requests_are_numbered};
+pub use laws::{answered_agendas_finish, octets_make_an_asking_end, requests_are_numbered};
 pub use limits::{LAST_INVOKE, REQUEST_LIMIT};
 pub use next::Next;

@@ -1,7 +1,9 @@
 use Rattle.std.proofs.Common.{◌++◌, subst, sym, ap, ◌∙◌}
 use Rattle.asking_end.specs.declared.end.AskEnd.TheVariants as ends
+use Rattle.asking_end.specs.Agendas.{as_before}
 use Rattle.asking_end.specs.Askers.{asker_behind}
 use Rattle.asking_end.specs.Callers.{AskerStands}
+use Rattle.asking_end.proofs.Becoming.{becomes_then, becomes_this}
 use Rattle.asking_end.proofs.Callers.{heard_so_far, piece_taken, piece_dropped}
 use Rattle.asking_end.proofs.Turned.{is_caller, ended_caller, fed_caller, free_caller}
 use Rattle.asking_end.proofs.asking.AskingEnd.turn.Goals as goal
@@ -59,3 +61,35 @@ returns-in_ok-hear_all-in-None-clause-ok g c = λ title agenda octets s.
     let on = c.in_ok-hear_all-in-None.ensures.ok title agenda (octets ++ piece) step fed in
     piece_taken acts title agenda octets piece c.args.out.now.items c.hear_all.new.out.items
     c.args.shown.now.items c.hear_all.new.shown.items c.hear_all.new.self on
+
+pub returns-in_err-feed-in-None-clause-agenda : goal.returns-in_err-feed-in-None-clause-agenda
+returns-in_err-feed-in-None-clause-agenda g c =
+    becomes_this g.A.Agenda.acts c.args.self.now.asker.agenda c.args.self.now.asker.agenda
+    c.feed.new.self.asker.agenda
+    (ap (λ p. p.agenda) c.in_err-feed-in-None.ensures.asker
+    ∙ ap (λ x. x.asker.agenda) c.self.view_is) as_before
+
+pub returns-in_err-hear_all-in-None-clause-agenda :
+    goal.returns-in_err-hear_all-in-None-clause-agenda
+returns-in_err-hear_all-in-None-clause-agenda g c =
+    becomes_then g.A.Agenda.acts c.args.self.now.asker.agenda c.feed.new.self.asker.agenda
+    c.hear_all.new.self.asker.agenda
+    (becomes_this g.A.Agenda.acts c.args.self.now.asker.agenda c.args.self.now.asker.agenda
+    c.feed.new.self.asker.agenda
+    (ap (λ p. p.agenda) c.in_ok-feed-in-None.ensures.asker
+    ∙ ap (λ x. x.asker.agenda) c.self.view_is) as_before)
+    c.in_err-hear_all-in-None.ensures.agenda
+
+pub returns-in_ok-hear_all-in-None-clause-agenda :
+    goal.returns-in_ok-hear_all-in-None-clause-agenda
+returns-in_ok-hear_all-in-None-clause-agenda g c =
+    becomes_then g.A.Agenda.acts c.args.self.now.asker.agenda c.feed.new.self.asker.agenda
+    c.hear_all.new.self.asker.agenda
+    (becomes_this g.A.Agenda.acts c.args.self.now.asker.agenda c.args.self.now.asker.agenda
+    c.feed.new.self.asker.agenda
+    (ap (λ p. p.agenda) c.in_ok-feed-in-None.ensures.asker
+    ∙ ap (λ x. x.asker.agenda) c.self.view_is) as_before)
+    c.in_ok-hear_all-in-None.ensures.agenda
+
+pub returns-in-Some-clause-agenda : goal.returns-in-Some-clause-agenda
+returns-in-Some-clause-agenda g c = as_before

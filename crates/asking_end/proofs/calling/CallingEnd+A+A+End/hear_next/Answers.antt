@@ -6,6 +6,8 @@ use Rattle.stack_assoc.specs.declared.input.StackIn.{StackIn}
 use Rattle.stack_assoc.specs.Steps.{left_of}
 use Rattle.stack_assoc.specs.Courses.{IsNextAnswer, FollowsAnswer, fault_in}
 use Rattle.asking_end.specs.Agendas.{ShowsFirst}
+use Rattle.asking_end.specs.Agendas.{as_before}
+use Rattle.asking_end.proofs.Becoming.{becomes_this, input_becomes}
 use Rattle.asking_end.proofs.Callers.{lawful_input, heard_all, heard_fault}
 use Rattle.asking_end.proofs.Turned.{may_move_on, heard_moved, answer_extends, moved_left}
 use Rattle.asking_end.proofs.Turned.{on_err, extended_same, shows_same, shows_more}
@@ -136,3 +138,37 @@ returns-in-Err-clause-ok g c = λ title agenda octets step h.
     (subst (λ (answer : Result (Option StackIn) StackFault). IsNextAnswer step.state.role octets
     h.told c.args.self.now.stack c.args.out.now.items answer c.next.new.self c.next.new.out.items)
     c.in-Err.is (c.in_ok-input.ensures.ok step.state.role octets h.told h.stands))
+
+pub returns-in_err-input-clause-agenda : goal.returns-in_err-input-clause-agenda
+returns-in_err-input-clause-agenda g c = as_before
+
+pub returns-in_err-heeded-in-Ok-Some-clause-agenda :
+    goal.returns-in_err-heeded-in-Ok-Some-clause-agenda
+returns-in_err-heeded-in-Ok-Some-clause-agenda g c =
+    becomes_this g.A.Agenda.acts c.args.self.now.asker.agenda c.args.self.now.asker.agenda
+    c.heed.new.self.asker.agenda
+    (ap (λ x. x.asker.agenda) c.in_err-heeded-in-Ok-Some.ensures.same) as_before
+
+pub returns-in_err-more-in-Ok-Some-clause-agenda :
+    goal.returns-in_err-more-in-Ok-Some-clause-agenda
+returns-in_err-more-in-Ok-Some-clause-agenda g c =
+    becomes_this g.A.Agenda.acts c.args.self.now.asker.agenda _
+    c.move_on.new.self.asker.agenda
+    (ap (λ p. p.agenda) c.in_err-more-in-Ok-Some.ensures.asker
+    ∙ ap (λ x. x.asker.agenda) c.in_ok-heeded-in-Ok-Some.ensures.ok)
+    (input_becomes g.A.Agenda.acts c.in-Ok-Some.input c.args.self.now.asker)
+
+pub returns-in_ok-more-in-Ok-Some-clause-agenda :
+    goal.returns-in_ok-more-in-Ok-Some-clause-agenda
+returns-in_ok-more-in-Ok-Some-clause-agenda g c =
+    becomes_this g.A.Agenda.acts c.args.self.now.asker.agenda _
+    c.move_on.new.self.asker.agenda
+    (ap (λ p. p.agenda) c.in_ok-more-in-Ok-Some.ensures.asker
+    ∙ ap (λ x. x.asker.agenda) c.in_ok-heeded-in-Ok-Some.ensures.ok)
+    (input_becomes g.A.Agenda.acts c.in-Ok-Some.input c.args.self.now.asker)
+
+pub returns-in-Ok-None-clause-agenda : goal.returns-in-Ok-None-clause-agenda
+returns-in-Ok-None-clause-agenda g c = as_before
+
+pub returns-in-Err-clause-agenda : goal.returns-in-Err-clause-agenda
+returns-in-Err-clause-agenda g c = as_before

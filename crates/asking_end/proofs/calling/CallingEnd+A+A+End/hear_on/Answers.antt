@@ -1,8 +1,9 @@
 use Rattle.std.proofs.Common.{ℕ, List, Bool, true, false, subst}
 use Rattle.plain_text.specs.Extends.{Extends}
 use Rattle.plain_text.proofs.Extended.{Extends-append}
-use Rattle.asking_end.specs.Agendas.{ShowsFirst}
+use Rattle.asking_end.specs.Agendas.{ShowsFirst, as_before}
 use Rattle.asking_end.specs.Callers.{HeardOn}
+use Rattle.asking_end.proofs.Becoming.{becomes_then}
 use Rattle.asking_end.proofs.Callers.{heard_none, heard_then}
 use Rattle.asking_end.proofs.Turned.{on_err, shows_less}
 use Rattle.asking_end.proofs.calling.CallingEnd+A+A+End.hear_on.Goals as goal
@@ -12,6 +13,7 @@ loop-init g c = record {
   hearing = c.requires.hearing;
   heard = λ title agenda octets step h. heard_none g.A.Agenda.acts title agenda octets step
       c.args.out.now.items c.args.shown.now.items c.args.self.now h;
+  become = as_before;
 }
 
 pub loop-preserved : goal.loop-preserved
@@ -40,6 +42,9 @@ loop-preserved g c =
           c.hear_next.new.out.items c.loop.shown.items c.hear_next.new.shown.items
           c.hear_next.new.self) c.if-branch.true
           (c.in_ok-hear_next.ensures.ok title agenda octets next n));
+      become = becomes_then acts c.args.self.now.asker.agenda c.loop.self.asker.agenda
+          c.hear_next.new.self.asker.agenda c.loop.invariant.become
+          c.in_ok-hear_next.ensures.agenda;
     }
 
 pub returns-clause-ok : goal.returns-clause-ok
@@ -71,3 +76,13 @@ returns-in_err-hear_next-clause-shown g c =
     (shows_less c.args.shown.now.items says.added c.hear_next.new.shown.items
     (subst (λ l. ShowsFirst l c.hear_next.new.shown.items) says.appended
     c.in_err-hear_next.ensures.shown))
+
+pub returns-clause-agenda : goal.returns-clause-agenda
+returns-clause-agenda g c =
+    becomes_then g.A.Agenda.acts c.args.self.now.asker.agenda c.loop.self.asker.agenda
+    c.hear_next.new.self.asker.agenda c.loop.invariant.become c.in_ok-hear_next.ensures.agenda
+
+pub returns-in_err-hear_next-clause-agenda : goal.returns-in_err-hear_next-clause-agenda
+returns-in_err-hear_next-clause-agenda g c =
+    becomes_then g.A.Agenda.acts c.args.self.now.asker.agenda c.loop.self.asker.agenda
+    c.hear_next.new.self.asker.agenda c.loop.invariant.become c.in_err-hear_next.ensures.agenda

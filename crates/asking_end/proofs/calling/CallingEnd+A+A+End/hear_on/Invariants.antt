@@ -1,6 +1,7 @@
 -- What was heard so far.
 use Rattle.std.proofs.Common.{ℕ, List, Option, true}
 use Rattle.stack_assoc.specs.Steps.{left_of}
+use Rattle.asking_end.specs.Agendas.{Becomes}
 use Rattle.asking_end.specs.Askers.{AskerStep}
 use Rattle.asking_end.specs.Callers.{Hears, IsHearing, HeardOn}
 use Rattle.asking_end.proofs.calling.CallingEnd+A+A+End.hear_on.Given as goal
@@ -13,6 +14,7 @@ invariant-loop g l = record {
       → Hears g.A.Agenda.acts title agenda octets step l.initial.self
       → HeardOn true g.A.Agenda.acts title agenda octets step l.initial.out.items l.out.items
       l.initial.shown.items l.shown.items l.self;
+  become : Becomes g.A.Agenda.acts l.initial.self.asker.agenda l.self.asker.agenda;
 }
 
 abbrev pub decreases-loop : goal.decreases-loop
