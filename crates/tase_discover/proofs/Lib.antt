@@ -9,5 +9,9 @@ pub mod ShortCalls
 pub mod Rising
 pub mod Paged
 pub mod Typed
+pub mod Apart
+pub mod OfferedNames
+pub mod TableNames
 pub mod SelfListed
+pub mod HeardListed
 mod WorkedListings

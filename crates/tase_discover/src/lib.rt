@@ -13,12 +13,10 @@ mod noted;
 mod pages;
 mod run;
 mod seen;
-mod telling;
 
 pub use asking_end as asking;
 pub use discover::Discover;
 pub use end::{ListingEnd, MOST_NAMES, Stage};
-pub use laws::tables_list_themselves;
+pub use laws::{answered_listings_finish, centre_names_differ, tables_list_themselves};
 pub use listing::Listing;
 pub use run::{listing_talk, run_discover};
-pub use telling::spell_listing_end;
