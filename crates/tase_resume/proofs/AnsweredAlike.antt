@@ -14,7 +14,7 @@ use Rattle.tase_views.specs.OwnTables.{own_tables}
 use Rattle.tase_views.specs.View.{view_of}
 use Rattle.tase_views.specs.Reports.{reports_pending}
 use Rattle.tase_views.specs.Outcomes.{answer_at}
-use Rattle.tase_resume.specs.Lived.{IsLived}
+use Rattle.tase_views.specs.Lived.{IsLived}
 use Rattle.tase_resume.specs.Recounted.{Gap, IsAlikeAnswer, asker, IsAnsweredAlike}
 use Rattle.tase_resume.proofs.RaisedHolds.{Offsets, raised_key}
 use Rattle.tase_resume.proofs.KeysAlike.{key_more}

@@ -22,8 +22,8 @@ use Rattle.tase_views.specs.Reports.{reports_pending}
 use Rattle.tase_views.proofs.OpenKeys.{among, open_of}
 use Rattle.tase_views.proofs.Seated.{orderly}
 use Rattle.tase_views.proofs.Holders.{IsGood, all_good, hold-seen}
-use Rattle.tase_resume.specs.Chosen.{chosen_in}
-use Rattle.tase_resume.specs.Lived.{IsLived}
+use Rattle.tase_views.specs.Chosen.{chosen_in}
+use Rattle.tase_views.specs.Lived.{IsLived}
 use Rattle.tase_resume.proofs.Like.{IsFree}
 use Rattle.tase_resume.proofs.Settled.{none_open, none_counts}
 use Rattle.tase_resume.proofs.SeenOrder.{open_alike, orderly_alike}

@@ -15,7 +15,7 @@ use Rattle.tase_views.specs.History.{association_in, moment_by, last_tick, is_st
 use Rattle.tase_views.specs.History.{stop_in}
 use Rattle.tase_views.specs.Outcomes.{first_refusal, stop_refusal, seat_refusal, own_refusal}
 use Rattle.tase_views.specs.Outcomes.{name_refusal, clock_refusal, clock_refusal_by, is_close}
-use Rattle.tase_resume.specs.Lived.{unweighed_refusal, IsLived}
+use Rattle.tase_views.specs.Lived.{unweighed_refusal, IsLived}
 use Rattle.tase_resume.specs.Bases.{without_stops}
 
 -- no refusal among several

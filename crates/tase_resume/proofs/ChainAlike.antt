@@ -9,7 +9,7 @@ use Rattle.std.specs.Option.{option_map_or}
 use Rattle.std.proofs.lemmas.List.Elements.{filter_map-append}
 use mathlib.Core.Path.{fun_ext}
 use Rattle.tase_points.specs.Sample.{Sample}
-use Rattle.point_db.specs.Updates.{Update as PointUpdate, Updates, values_given}
+use Rattle.point_db.specs.Updates.{Update as PointUpdate, Updates, values_given, newest_of}
 use Rattle.mms_data.specs.ObjectName.{ObjectName}
 use Rattle.data_sets.specs.declared.book.DataSet.{DataSet}
 use Rattle.bilateral.specs.Rows.{CentreRows, IsCentre, device_of}
@@ -28,14 +28,13 @@ use Rattle.tase_views.specs.Devices.{Deed, deed_of, step_of_deed, moment_of, don
 use Rattle.tase_views.specs.History.{Past, opens_in, last_tick}
 use Rattle.tase_views.specs.View.{Seen, own, other_acted, other_closed, updated, tagged, asked}
 use Rattle.tase_views.specs.View.{chose, ticked, stopped, View, held, held_in, moves_in, view_of}
-use Rattle.tase_views.specs.View.{step_in, steps_in}
+use Rattle.tase_views.specs.View.{step_in, steps_in, seen_in}
 use Rattle.tase_views.specs.Sets.{SetError, define_fault}
 use Rattle.tase_views.specs.Slots.{sets_in}
-use Rattle.tase_views.proofs.Seen.{seen_in}
 use Rattle.tase_views.proofs.DevicesSeen.{move_for, device_moves-cons}
-use Rattle.tase_resume.specs.Lived.{IsLived}
-use Rattle.tase_resume.specs.Listed.{defined_by, sets_listed}
-use Rattle.tase_resume.specs.Given.{update_by, updates_of, newest_of}
+use Rattle.tase_views.specs.Lived.{IsLived}
+use Rattle.tase_views.specs.Listed.{defined_by, sets_listed}
+use Rattle.tase_views.specs.Given.{update_by, updates_of}
 use Rattle.tase_resume.specs.Bases.{open_seats, settled_past}
 use Rattle.tase_resume.specs.Warming.{of_centre, table_event, tag_event, moment_event, set_events}
 use Rattle.tase_resume.specs.Warming.{table_told, value_told, tag_told, sets_told, places_of}

@@ -18,7 +18,7 @@ use Rattle.tase_views.specs.Outcomes.{stop_refusal, seat_refusal, seat_refusal_b
 use Rattle.tase_views.specs.Outcomes.{name_refusal, clock_refusal}
 use Rattle.tase_views.specs.View.{moves_in}
 use Rattle.tase_views.proofs.OpenKeys.{among, without, open_of, is_open}
-use Rattle.tase_resume.specs.Lived.{IsLived}
+use Rattle.tase_views.specs.Lived.{IsLived}
 use Rattle.tase_resume.proofs.QuietActs.{call_quiet, quiet_open, IsCentres, fed}
 use Rattle.tase_resume.proofs.Calm.{three_none, two_none}
 

@@ -16,7 +16,7 @@ use Rattle.tase_views.specs.Outcomes.{is_named_there}
 use Rattle.tase_views.specs.OwnTables.{Owns, is_point_of, device_named}
 use Rattle.tase_views.specs.View.{own, updated, tagged, asked, chose, held_in, other_seen, view_by}
 use Rattle.tase_views.specs.View.{moves_in}
-use Rattle.tase_resume.specs.Lived.{IsLived}
+use Rattle.tase_views.specs.Lived.{IsLived}
 use Rattle.tase_resume.proofs.QuietActs.{IsQuiet, AreQuiet, call_quiet, IsCentres, fed}
 use Rattle.tase_resume.proofs.KeysAlike.{name_allows}
 use Rattle.tase_resume.proofs.PeerOffsets.{key_numbered}

@@ -25,7 +25,7 @@ use Rattle.tase_views.specs.View.{Seen, own, other_acted, other_closed, updated,
 use Rattle.tase_views.specs.View.{chose, View, shows_act, deed_seen, other_seen, held_in, view_by}
 use Rattle.tase_views.specs.View.{moves_in, key_number}
 use Rattle.tase_views.proofs.Seated.{issued}
-use Rattle.tase_resume.specs.Lived.{IsLived}
+use Rattle.tase_views.specs.Lived.{IsLived}
 use Rattle.tase_resume.proofs.QuietActs.{IsCentres, fed}
 use Rattle.tase_resume.proofs.KeysAlike.{name_allows, new_seat}
 use Rattle.tase_resume.proofs.PeerOffsets.{key_numbered}

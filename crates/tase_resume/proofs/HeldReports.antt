@@ -2,7 +2,7 @@
 -- that with which they were made.
 use Rattle.std.proofs.Common.{◌≤◌}
 use Rattle.tase_views.specs.OwnTables.{OwnTables}
-use Rattle.tase_views.specs.View.{held}
+use Rattle.tase_views.specs.View.{held, seen_in}
 use Rattle.tase_resume.proofs.KeysAlike.{raised_in}
 use Rattle.std.proofs.Common.{◌≡◌, ℕ, ◌+◌, true, List, [], ◌∷◌, ◌++◌, map, Option, Some}
 use Rattle.std.proofs.Common.{None, refl, sym, ap, subst, ◌∙◌, inl, arith}
@@ -14,8 +14,8 @@ use Rattle.tase_views.specs.History.{Past, association_in, opens_in}
 use Rattle.tase_views.specs.OwnTables.{own_tables}
 use Rattle.tase_views.specs.View.{View, moves_in, view_of, view_by}
 use Rattle.tase_views.specs.Reports.{reports_pending}
-use Rattle.tase_views.proofs.Seen.{seen_in, view_by-append}
-use Rattle.tase_resume.specs.Lived.{IsLived}
+use Rattle.tase_views.proofs.Seen.{view_by-append}
+use Rattle.tase_views.specs.Lived.{IsLived}
 use Rattle.tase_resume.specs.Recounted.{Gap, AreReportsRecounted, asker}
 use Rattle.tase_resume.proofs.RaisedHolds.{Offsets, raised_key}
 use Rattle.tase_resume.proofs.Like.{raised, IsLike}

@@ -21,7 +21,7 @@ use Rattle.tase_views.specs.History.{key_by, key_at, moment_by, last_tick, is_st
 use Rattle.tase_views.specs.Outcomes.{first_refusal, seat_refusal, seat_refusal_by, name_refusal}
 use Rattle.tase_views.specs.Outcomes.{own_refusal, stop_refusal, clock_refusal, is_named_there}
 use Rattle.tase_views.specs.View.{moves_in}
-use Rattle.tase_resume.specs.Lived.{IsLived}
+use Rattle.tase_views.specs.Lived.{IsLived}
 use Rattle.tase_resume.proofs.RaisedHolds.{Offsets, raised_key}
 use Rattle.tase_resume.proofs.QuietActs.{IsCentres, fed}
 use Rattle.tase_resume.proofs.Calm.{three_none, two_none}

@@ -49,6 +49,11 @@ pub mod SettledTells
 pub mod SettledSets
 pub mod WarmRead
 pub mod ReadBack
+pub mod TakenBehind
+pub mod LinesTaken
+pub mod WarmNow
+pub mod PutPlaces
+pub mod SetsPut
 mod Worked
 mod WorkedTables
 mod WorkedAnswers

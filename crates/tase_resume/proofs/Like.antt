@@ -16,7 +16,7 @@ use Rattle.tase_views.specs.View.{chose, ticked, stopped, View, table_seen, forc
 use Rattle.tase_views.specs.View.{key_number, moves_seen}
 use Rattle.tase_views.specs.Values.{values_in}
 use Rattle.tase_views.specs.Slots.{sets_in, slot_moves}
-use Rattle.tase_resume.specs.Chosen.{chosen_in}
+use Rattle.tase_views.specs.Chosen.{chosen_in}
 use Rattle.tase_resume.specs.Recounted.{Gap}
 use Rattle.tase_resume.proofs.RaisedHolds.{Offsets, raised_state}
 

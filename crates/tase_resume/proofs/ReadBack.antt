@@ -16,7 +16,8 @@ use Rattle.tase_views.specs.Outcomes.{refusal_of, answer_of, is_close}
 use Rattle.texts.specs.Journal.Entries.{entry_in, IsEntry}
 use Rattle.texts.specs.Journal.Journals.{entry_text, entry_line, journal_text}
 use Rattle.texts.proofs.OfJournal.EntryRead.{entry_in-text, journal_lines}
-use Rattle.tase_resume.specs.Snapshots.{LineTurn, turn_of, is_above, SnapshotState, no_lines}
+use Rattle.tase_resume.specs.declared.turns.LineTurn.{LineTurn}
+use Rattle.tase_resume.specs.Snapshots.{turn_of, is_above, SnapshotState, no_lines}
 use Rattle.tase_resume.specs.Snapshots.{snapshot_setup, is_defined, opens_association, line_taken}
 use Rattle.tase_resume.specs.Snapshots.{snapshot_with, snapshot_behind, IsSnapshot, ends_lines}
 use Rattle.tase_resume.specs.Snapshots.{some_left, line_after, line_read, lines_read, snapshot_in}
@@ -112,7 +113,7 @@ line_grows rows state after entry (Some some) e =
     (is_defined (answer_of (snapshot_setup rows) state.past 0 entry.event))
     (some && is_close entry.event) e
 
-grows : (rows : CentreRows) (state after : SnapshotState) (entry : Entry)
+pub grows : (rows : CentreRows) (state after : SnapshotState) (entry : Entry)
     → snapshot_with rows state entry ≡ Some after → after.past ≡ entry ∷ state.past
 grows rows state after entry e =
     by ((entry.who == 0) && is_none (refusal_of (snapshot_setup rows) state.past 0 entry.event)) e

@@ -16,15 +16,15 @@ use Rattle.tase_views.specs.Moves.{sort_of, Move}
 use Rattle.tase_views.specs.Force.{last_chosen, force_of}
 use Rattle.tase_views.specs.History.{Past, opens_in, last_tick, stop_in}
 use Rattle.tase_views.specs.OwnTables.{own_tables, table_in, device_named, is_selectable}
-use Rattle.tase_views.specs.View.{View, moves_in, view_of, view_by, moment_in, moves_seen}
+use Rattle.tase_views.specs.View.{View, moves_in, view_of, view_by, moment_in, moves_seen, seen_in}
 use Rattle.tase_views.specs.Values.{values_in}
 use Rattle.tase_views.specs.Slots.{sets_in}
 use Rattle.tase_views.specs.Outcomes.{stop_refusal, own_refusal, clock_refusal, clock_refusal_by}
 use Rattle.tase_views.specs.Outcomes.{is_close}
-use Rattle.tase_views.proofs.Seen.{seen_in, view_by-append}
+use Rattle.tase_views.proofs.Seen.{view_by-append}
 use Rattle.tase_views.proofs.DevicesSeen.{has_named}
-use Rattle.tase_resume.specs.Lived.{unweighed_refusal, IsLived}
-use Rattle.tase_resume.specs.Chosen.{chosen_in}
+use Rattle.tase_views.specs.Lived.{unweighed_refusal, IsLived}
+use Rattle.tase_views.specs.Chosen.{chosen_in}
 use Rattle.tase_resume.specs.Recounted.{Gap}
 use Rattle.tase_resume.proofs.RaisedHolds.{Offsets, raised_state}
 use Rattle.tase_resume.proofs.Calm.{three_none}

@@ -24,7 +24,7 @@ use Rattle.tase_views.specs.View.{own_key, other_key, step_seen, steps_seen, mov
 use Rattle.tase_views.specs.Values.{update_of, values_in}
 use Rattle.tase_views.proofs.InForce.{steps_seen-moment}
 use Rattle.tase_views.proofs.DevicesSeen.{move_for, device_moves-cons}
-use Rattle.tase_resume.specs.Chosen.{chosen_in}
+use Rattle.tase_views.specs.Chosen.{chosen_in}
 use Rattle.tase_resume.proofs.RaisedHolds.{Offsets, raised_key, raised_move, raised_state}
 use Rattle.tase_resume.proofs.RaisedHolds.{after_raised}
 use Rattle.tase_resume.proofs.Like.{raised}

@@ -21,7 +21,7 @@ use Rattle.tase_views.specs.View.{chose, ticked, stopped, View, held, force, kee
 use Rattle.tase_views.specs.Sets.{Sets, sets_there, define_fault, SetError, error_of}
 use Rattle.tase_views.specs.Slots.{sets_in, slot_moves, is_wished}
 use Rattle.tase_views.specs.Answers.{set_names}
-use Rattle.tase_resume.specs.Listed.{sets_listed}
+use Rattle.tase_views.specs.Listed.{sets_listed}
 use Rattle.tase_resume.proofs.NamesThere.{once_if, view_count, same_length}
 use Rattle.tase_resume.proofs.SetLists.{names_of, AreOnce, filter_members, filter_once, once_push}
 use Rattle.tase_resume.proofs.SetLists.{members_more, names_count}

@@ -13,7 +13,7 @@ use Rattle.tase_views.specs.History.{Past, association_in, stop_in}
 use Rattle.tase_views.specs.Force.{open_count, table_move}
 use Rattle.tase_views.specs.View.{moves_in}
 use Rattle.tase_views.proofs.OpenKeys.{among, open_of}
-use Rattle.tase_resume.specs.Lived.{IsLived}
+use Rattle.tase_views.specs.Lived.{IsLived}
 use Rattle.tase_resume.specs.Bases.{with_seat, seats_in, open_seats, close_of, without_stops}
 use Rattle.tase_resume.specs.Bases.{settled_past}
 use Rattle.tase_resume.proofs.Calm.{calm_association, calm_stop, calm_lived}

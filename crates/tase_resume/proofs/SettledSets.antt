@@ -26,9 +26,9 @@ use Rattle.tase_views.specs.View.{Seen, own, other_closed, stopped, View, moves_
 use Rattle.tase_views.specs.View.{view_by, view_of, table_seen, force, keeps_force, other_acted}
 use Rattle.tase_views.specs.View.{updated, tagged, asked, chose, ticked}
 use Rattle.tase_views.specs.Slots.{sets_in}
-use Rattle.tase_resume.specs.Lived.{IsLived}
-use Rattle.tase_resume.specs.Chosen.{chosen_in}
-use Rattle.tase_resume.specs.Listed.{sets_listed}
+use Rattle.tase_views.specs.Lived.{IsLived}
+use Rattle.tase_views.specs.Chosen.{chosen_in}
+use Rattle.tase_views.specs.Listed.{sets_listed}
 use Rattle.tase_resume.specs.Bases.{close_of, open_seats, without_stops, settled_past}
 use Rattle.tase_resume.proofs.Calm.{three_none, stop_is}
 use Rattle.tase_resume.proofs.Settled.{closed_behind, settled_is, settled_lived, settled_free}

@@ -18,7 +18,7 @@ use Rattle.tase_views.specs.Devices.{deed_of, device_moves, DeviceStep, step_of_
 use Rattle.tase_views.specs.History.{Past, association_in, key_by, opens_in, last_tick, is_stop}
 use Rattle.tase_views.specs.History.{is_stopping}
 use Rattle.tase_views.specs.View.{moves_in, held_in, step_in, steps_in}
-use Rattle.tase_resume.specs.Given.{update_by, updates_of}
+use Rattle.tase_views.specs.Given.{update_by, updates_of}
 use Rattle.tase_resume.specs.Bases.{close_of, open_seats, without_stops, settled_past}
 use Rattle.tase_resume.proofs.Calm.{stop_is, calm_opens, calm_association, calm_tick}
 use Rattle.tase_resume.proofs.Settled.{closed_behind, settled_is}

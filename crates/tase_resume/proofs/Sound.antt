@@ -13,6 +13,7 @@ use Rattle.data_sets.specs.declared.book.DataSet.{DataSet}
 use Rattle.bilateral.specs.Rows.{CentreRows, IsCentre}
 use Rattle.sbo_device.specs.declared.key.Key.{Key}
 use Rattle.sbo_device.specs.Moves.{Tag}
+use Rattle.point_db.specs.Updates.{last_given}
 use Rattle.tase_views.specs.declared.event.EventKind.{EventKind}
 use Rattle.tase_views.specs.declared.event.EventKind.TheVariants.{Open, Request, Close, Update}
 use Rattle.tase_views.specs.declared.event.EventKind.TheVariants.{Table, Tick}
@@ -32,15 +33,16 @@ use Rattle.tase_views.specs.Weights.{weight, weight_of}
 use Rattle.tase_views.specs.Outcomes.{stop_refusal, seat_refusal, name_refusal, own_refusal}
 use Rattle.tase_views.specs.Outcomes.{clock_refusal, weight_refusal, refusal_of, answer_at}
 use Rattle.tase_views.specs.Outcomes.{answer_of, is_ending}
-use Rattle.tase_resume.specs.Lived.{IsLived}
-use Rattle.tase_resume.specs.Given.{updates_of, last_given}
-use Rattle.tase_resume.specs.Listed.{sets_listed}
-use Rattle.tase_resume.specs.Chosen.{chosen_in}
+use Rattle.tase_views.specs.Lived.{IsLived}
+use Rattle.tase_views.specs.Given.{updates_of}
+use Rattle.tase_views.specs.Listed.{sets_listed}
+use Rattle.tase_views.specs.Chosen.{chosen_in}
 use Rattle.tase_resume.proofs.WarmKnown.{tag_past}
 use Rattle.tase_resume.specs.Warming.{of_centre, table_event, tag_event, moment_event, define_event}
 use Rattle.tase_resume.specs.Warming.{set_events, table_told, value_told, tag_told, sets_told}
 use Rattle.tase_resume.specs.Warming.{places_of, warm_events}
-use Rattle.tase_resume.specs.Snapshots.{LineTurn, turn_at, turn_of, is_above, SnapshotState}
+use Rattle.tase_resume.specs.declared.turns.LineTurn.{LineTurn}
+use Rattle.tase_resume.specs.Snapshots.{turn_at, turn_of, is_above, SnapshotState}
 use Rattle.tase_resume.specs.Snapshots.{no_lines, snapshot_setup, is_defined, opens_association}
 use Rattle.tase_resume.specs.Snapshots.{snapshot_with, snapshot_behind, IsSnapshot}
 use Rattle.tase_resume.proofs.Calm.{three_none, two_none}

@@ -23,8 +23,8 @@ use Rattle.tase_views.specs.View.{Seen, own, other_acted, other_closed, updated,
 use Rattle.tase_views.specs.View.{chose, View, shows_act, deed_seen, other_seen, held_in, view_by}
 use Rattle.tase_views.specs.View.{view_of, moves_in}
 use Rattle.tase_views.specs.Values.{values_in}
-use Rattle.tase_resume.specs.Lived.{IsLived}
-use Rattle.tase_resume.specs.Given.{update_by, updates_of}
+use Rattle.tase_views.specs.Lived.{IsLived}
+use Rattle.tase_views.specs.Given.{update_by, updates_of}
 use Rattle.tase_resume.proofs.QuietActs.{IsCentres, fed}
 use Rattle.tase_resume.proofs.KeysAlike.{name_allows}
 

@@ -18,8 +18,7 @@ use Rattle.tase_views.specs.Devices.{Deed, deed_of}
 use Rattle.tase_views.specs.History.{Past, opens_in, association_in}
 use Rattle.tase_views.specs.View.{Seen, own, other_acted, other_closed, updated, tagged, asked}
 use Rattle.tase_views.specs.View.{chose, ticked, stopped, View, shows_act, deed_seen, other_seen}
-use Rattle.tase_views.specs.View.{held_in, seen_by, key_number}
-use Rattle.tase_views.proofs.Seen.{seen_in}
+use Rattle.tase_views.specs.View.{held_in, seen_by, key_number, seen_in}
 use Rattle.tase_resume.proofs.RaisedHolds.{Offsets, raised_key}
 use Rattle.tase_resume.proofs.Like.{raised, IsLate}
 use Rattle.tase_resume.proofs.SeenAlike.{count_more, choice_more, force_more}

@@ -7,7 +7,7 @@ use Rattle.std.specs.List.{cons_option}
 use Rattle.std.proofs.lemmas.Bool.{eqb-true, and_parts, ltb-true}
 use Rattle.std.proofs.lemmas.Option.{same_Some, none-some}
 use Rattle.tase_points.specs.Sample.{Sample}
-use Rattle.point_db.specs.Updates.{Updates, values_given}
+use Rattle.point_db.specs.Updates.{Updates, values_given, newest_of}
 use Rattle.bilateral.specs.Rows.{CentreRows, device_of}
 use Rattle.sbo_device.specs.declared.key.Key.{Key}
 use Rattle.sbo_device.specs.declared.device.TheConstants.{MOMENT_LIMIT}
@@ -25,8 +25,8 @@ use Rattle.tase_views.specs.History.{Past, association_in, key_by, last_tick, mo
 use Rattle.tase_views.specs.View.{moves_in, steps_in}
 use Rattle.tase_views.specs.Outcomes.{has_table, is_known, is_named_there, stop_refusal}
 use Rattle.tase_views.specs.Outcomes.{own_refusal, clock_refusal, clock_refusal_by}
-use Rattle.tase_resume.specs.Lived.{IsLived}
-use Rattle.tase_resume.specs.Given.{update_by, updates_of, newest_of}
+use Rattle.tase_views.specs.Lived.{IsLived}
+use Rattle.tase_views.specs.Given.{update_by, updates_of}
 use Rattle.tase_resume.proofs.QuietActs.{IsCentres, fed, call_quiet, quiet_tables}
 use Rattle.tase_resume.proofs.Calm.{three_none}
 use Rattle.tase_resume.proofs.KeysAlike.{name_allows}

@@ -11,7 +11,7 @@ use Rattle.std.proofs.lemmas.List.Folds.{list_any_at}
 use Rattle.std.proofs.lemmas.Slice.Eq.{bytes_eq-Decides}
 use Rattle.tase_points.specs.declared.kind.Kind.{Kind}
 use Rattle.tase_points.specs.Sample.{Sample}
-use Rattle.point_db.specs.Updates.{last_of, changes_of}
+use Rattle.point_db.specs.Updates.{last_of, changes_of, newest_of}
 use Rattle.bilateral.proofs.Positions.{found}
 use Rattle.bilateral.proofs.Names.{position-none_any}
 use Rattle.bilateral.specs.declared.rows.See.{See}
@@ -33,9 +33,9 @@ use Rattle.tase_views.specs.Values.{values_in}
 use Rattle.tase_views.specs.Slots.{sets_in}
 use Rattle.tase_views.proofs.DevicesSeen.{tag-seen}
 use Rattle.tase_views.proofs.DeviceRows.{IsRow, table_rows}
-use Rattle.tase_resume.specs.Lived.{IsLived}
-use Rattle.tase_resume.specs.Chosen.{chosen_in}
-use Rattle.tase_resume.specs.Given.{updates_of, newest_of}
+use Rattle.tase_views.specs.Lived.{IsLived}
+use Rattle.tase_views.specs.Chosen.{chosen_in}
+use Rattle.tase_views.specs.Given.{updates_of}
 use Rattle.tase_resume.specs.Bases.{settled_past}
 use Rattle.tase_resume.specs.Warming.{of_centre, warm_events, warm_entries, warm_past}
 use Rattle.tase_resume.specs.Snapshots.{IsSnapshot}

@@ -25,9 +25,9 @@ use Rattle.tase_views.specs.View.{own, View, moves_in, view_by, view_of, held, f
 use Rattle.tase_views.specs.View.{table_seen, steps_in}
 use Rattle.tase_views.specs.Sets.{define_fault, SetError}
 use Rattle.tase_views.specs.Slots.{sets_in}
-use Rattle.tase_resume.specs.Lived.{IsLived}
-use Rattle.tase_resume.specs.Chosen.{chosen_in}
-use Rattle.tase_resume.specs.Listed.{defined_by, sets_listed}
+use Rattle.tase_views.specs.Lived.{IsLived}
+use Rattle.tase_views.specs.Chosen.{chosen_in}
+use Rattle.tase_views.specs.Listed.{defined_by, sets_listed}
 use Rattle.tase_resume.specs.Warming.{of_centre, define_event, set_events, sets_told, places_of}
 use Rattle.tase_resume.specs.Warming.{warm_events}
 use Rattle.tase_resume.proofs.Closing.{at_seat, at_other}

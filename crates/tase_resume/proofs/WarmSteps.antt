@@ -24,8 +24,8 @@ use Rattle.tase_views.specs.View.{keeps_force}
 use Rattle.tase_views.specs.Sets.{Sets, sets_there, define_fault}
 use Rattle.tase_views.specs.Slots.{sets_in}
 use Rattle.tase_views.specs.Outcomes.{seat_refusal_by, is_named_there, own_refusal, clock_refusal}
-use Rattle.tase_resume.specs.Lived.{unweighed_refusal}
-use Rattle.tase_resume.specs.Listed.{sets_listed}
+use Rattle.tase_views.specs.Lived.{unweighed_refusal}
+use Rattle.tase_views.specs.Listed.{sets_listed}
 use Rattle.tase_resume.proofs.Calm.{unstopped}
 use Rattle.tase_resume.proofs.Fresh.{AreFresh}
 use Rattle.tase_resume.proofs.SetsListed.{IsAllowed, AreAllowed, AreListed, listed}

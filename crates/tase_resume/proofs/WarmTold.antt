@@ -18,6 +18,7 @@ use Rattle.sbo_device.specs.declared.key.Key.{Key}
 use Rattle.sbo_device.specs.declared.device.TheConstants.{MOMENT_LIMIT}
 use Rattle.sbo_device.specs.Moves.{Tag, tagged, DeviceMove}
 use Rattle.sbo_device.specs.States.{tag_of}
+use Rattle.point_db.specs.Updates.{newest_of, last_given}
 use Rattle.tase_views.specs.declared.event.Entry.{Entry}
 use Rattle.tase_views.specs.declared.event.EventKind.{EventKind}
 use Rattle.tase_views.specs.declared.event.EventKind.TheVariants.{Update, Table, Tick}
@@ -34,9 +35,9 @@ use Rattle.tase_views.specs.View as seen
 use Rattle.tase_views.specs.Slots.{sets_in}
 use Rattle.tase_views.specs.Outcomes.{first_refusal, seat_refusal_by, is_named_there, own_refusal}
 use Rattle.tase_views.specs.Outcomes.{clock_refusal, clock_refusal_by, has_table}
-use Rattle.tase_resume.specs.Lived.{unweighed_refusal, IsLived}
-use Rattle.tase_resume.specs.Chosen.{chosen_in}
-use Rattle.tase_resume.specs.Given.{updates_of, newest_of, last_given}
+use Rattle.tase_views.specs.Lived.{unweighed_refusal, IsLived}
+use Rattle.tase_views.specs.Chosen.{chosen_in}
+use Rattle.tase_views.specs.Given.{updates_of}
 use Rattle.tase_resume.specs.Warming.{of_centre, table_event, tag_event, moment_event, table_told}
 use Rattle.tase_resume.specs.Warming.{value_told, tag_told, places_of}
 use Rattle.tase_resume.proofs.Calm.{unstopped}

@@ -30,7 +30,7 @@ use Rattle.tase_views.specs.OwnTables.{OwnTable, OwnTables, own_tables}
 use Rattle.tase_views.specs.Objects.{Object, indication_point, object_named}
 use Rattle.tase_views.specs.View.{View, held, view_of}
 use Rattle.tase_views.specs.Slots.{members_of}
-use Rattle.tase_resume.specs.Given.{updates_of}
+use Rattle.tase_views.specs.Given.{updates_of}
 use Rattle.tase_resume.specs.Bases.{settled_past}
 
 -- how many changes more the point with a name has

@@ -18,12 +18,9 @@ use Rattle.tase_views.specs.Setup.{Setup}
 use Rattle.tase_views.specs.History.{Past}
 use Rattle.tase_views.specs.Outcomes.{refusal_of, answer_of, is_close}
 use Rattle.texts.specs.Journal.Entries.{entry_in}
+use Rattle.tase_resume.specs.declared.turns.LineTurn.{LineTurn}
 
--- the place of a line: its part of a snapshot, and the number of what it tells
-pub record LineTurn : Type 0 where
-  pub part : ℕ
-  pub number : ℕ
-
+-- the place of a line
 abbrev pub turn_at : ℕ → ℕ → Option LineTurn
 turn_at part number = Some (record { part = part; number = number })
 

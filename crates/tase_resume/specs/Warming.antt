@@ -10,6 +10,7 @@ use Rattle.data_sets.specs.declared.book.DataSet.{DataSet}
 use Rattle.bilateral.specs.Rows.{CentreRows, device_of}
 use Rattle.sbo_device.specs.Moves.{Tag}
 use Rattle.sbo_device.specs.States.{tag_of}
+use Rattle.point_db.specs.Updates.{last_given}
 use Rattle.tase_views.specs.declared.call.CallKind.TheVariants.{Define}
 use Rattle.tase_views.specs.declared.event.EventKind.{EventKind}
 use Rattle.tase_views.specs.declared.event.EventKind.TheVariants.{Open, Request, Close, Update}
@@ -20,9 +21,9 @@ use Rattle.tase_views.specs.History.{Past, last_tick}
 use Rattle.tase_views.specs.OwnTables.{OwnTable, own_tables, domain_name}
 use Rattle.tase_views.specs.Devices.{device_moves}
 use Rattle.tase_views.specs.View.{moves_in, view_of, steps_in, held}
-use Rattle.tase_resume.specs.Chosen.{chosen_in}
-use Rattle.tase_resume.specs.Listed.{sets_listed}
-use Rattle.tase_resume.specs.Given.{updates_of, last_given}
+use Rattle.tase_views.specs.Chosen.{chosen_in}
+use Rattle.tase_views.specs.Listed.{sets_listed}
+use Rattle.tase_views.specs.Given.{updates_of}
 use Rattle.tase_resume.specs.Bases.{settled_past}
 
 -- the numbers of the items of a list

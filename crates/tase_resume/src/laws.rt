@@ -10,7 +10,7 @@ ghost use Rattle.tase_views.specs.Outcomes.{own_refusal, clock_refusal, stop_ref
 ghost use Rattle.tase_views.specs.Weights.{weight_of};
 ghost use Rattle.texts.specs.Journal.Entries.{IsEntry};
 ghost use Rattle.texts.specs.Journal.Journals.{journal_text};
-ghost use Rattle.tase_resume.specs.Lived.{IsLived};
+ghost use Rattle.tase_views.specs.Lived.{IsLived};
 ghost use Rattle.tase_resume.specs.Bases.{settled_past};
 ghost use Rattle.tase_resume.specs.Warming.{warm_entries, warm_past};
 ghost use Rattle.tase_resume.specs.Snapshots.{IsSnapshot, snapshot_in};
