@@ -1,0 +1,6 @@
+pub mod Watching
+pub mod PeerAnswers
+pub mod ItemTexts
+pub mod Owns
+pub mod Audits
+pub mod Alike
