@@ -1,6 +1,6 @@
 -- The requests by which a device is operated are short.
 use Rattle.std.proofs.Common.{◌≡◌, ℕ, ℤ, ◌+◌, ◌≤◌, true, false, List, [], ◌∷◌, ◌++◌, length, arith}
-use Rattle.std.proofs.Common.{sym, subst, ap, ◌∙◌, length-append, pos, negsuc}
+use Rattle.std.proofs.Common.{refl, sym, subst, ap, ◌∙◌, length-append, pos, negsuc}
 use Rattle.std.specs.List.{list_all}
 use Rattle.std.proofs.lemmas.Bool.{false≢true, and_parts, and_from, leb-true}
 use Rattle.std.proofs.lemmas.Bool.Decides.{nat_tests}
@@ -24,10 +24,13 @@ use Rattle.bilateral.proofs.OfWords.VisibleWords.{IsVisible-from_name}
 use Rattle.bilateral.specs.Rows.{CentreRows, table_of}
 use Rattle.tase_views.specs.declared.call.CallKind.{CallKind}
 use Rattle.tase_views.specs.declared.call.CallKind.TheVariants as calls
-use Rattle.centre_client.specs.declared.steps.TheConstants.{LAST_INVOKE}
-use Rattle.centre_client.specs.Sayings.{IsShort}
+use Rattle.asking_end.specs.declared.limits.TheConstants.{LAST_INVOKE}
+use Rattle.asking_end.specs.Sayings.{IsShort, IsAskable}
+use Rattle.centre_client.specs.declared.script.StepKind.{StepKind}
+use Rattle.centre_client.specs.declared.script.StepKind.TheVariants as kinds
+use Rattle.centre_client.specs.StepLines.{IsStep, is_long}
 use Rattle.centre_client.specs.Plays.{variable_list, value_list}
-use Rattle.centre_client.proofs.ShortRequests.{last-length}
+use Rattle.asking_end.proofs.ShortRequests.{last-length}
 
 number_size-most : (n : ℕ) → number_size n ≤ 8
 number_size-most n = grind (arith, nat_tests)
@@ -101,25 +104,41 @@ operate-short domain item value d i =
       last-length,
     )
 
--- the same of calls that are equal to these
+-- calls that are equal to these may be asked
 pub select_named : (rows : CentreRows) (peer : ℕ) (item : List ℕ)
     → IsIdentifier (table_of rows peer).domain → IsIdentifier item
     → (names : List ObjectName) (call : CallKind) → names ≡ variable_list rows peer item
-    → call ≡ calls.Read names false → IsShort call
+    → call ≡ calls.Read names false → IsAskable call
 select_named rows peer item d i names call named is =
-    subst IsShort (sym (is ∙ ap (λ (ns : List ObjectName). calls.Read ns false) named))
-    (select-short (table_of rows peer).domain item d i)
+    subst IsAskable (sym (is ∙ ap (λ (ns : List ObjectName). calls.Read ns false) named))
+    (record {
+      service = refl;
+      short = select-short (table_of rows peer).domain item d i;
+    })
 
 pub operate_named : (rows : CentreRows) (peer : ℕ) (item : List ℕ) (value : ℤ)
     → IsIdentifier (table_of rows peer).domain → IsIdentifier item
     → (names : List ObjectName) (values : List Datum) (call : CallKind)
     → names ≡ variable_list rows peer item → values ≡ value_list value
-    → call ≡ calls.Write names values → IsShort call
+    → call ≡ calls.Write names values → IsAskable call
 operate_named rows peer item value d i names values call named valued is =
-    subst IsShort
+    subst IsAskable
     (sym (is ∙ ap (λ (ns : List ObjectName). calls.Write ns values) named
     ∙ ap (λ (vs : List Datum). calls.Write (variable_list rows peer item) vs) valued))
-    (operate-short (table_of rows peer).domain item value d i)
+    (record {
+      service = refl;
+      short = operate-short (table_of rows peer).domain item value d i;
+    })
+
+not_long : (call : CallKind) → is_long call ≡ false → IsShort call
+not_long call short = grind (arith, nat_tests, short)
+
+-- the call of a step may be asked
+pub step_askable : (rows : CentreRows) (peer : ℕ) (kind : StepKind) (call copy : CallKind)
+    → kind ≡ kinds.Call call → copy ≡ call → IsStep rows peer kind → IsAskable copy
+step_askable rows peer kind call copy is same h =
+    let s : IsStep rows peer (kinds.Call call) = subst (IsStep rows peer) is h in
+    subst IsAskable (sym same) (record { service = s.0; short = not_long call s.2 })
 
 -- ---- a device's name with an end
 

@@ -1,8 +1,9 @@
 -- What a client says over all octets, as exchanges of which each is checked.
-use Rattle.std.proofs.Common.{◌≡◌, ◌≤◌, ℕ, ℤ, true, false, List, [], ◌∷◌, ◌++◌, Option, Some, None}
+use Rattle.std.proofs.Common.{◌≡◌, ◌≤◌, ℕ, ℤ, true, false, List, [], ◌∷◌, ◌++◌, Option}
+use Rattle.std.proofs.Common.{Some, None}
 use Rattle.std.proofs.Common.{Result, Ok, Err, map, length, refl, sym, ap, subst, ◌∙◌, inl, inr}
 use Rattle.std.proofs.Common.{append_assoc, arith}
-use Rattle.std.specs.Prelude.{IfOk, option_map}
+use Rattle.std.specs.Prelude.{IfOk, option_map, if◌then◌else◌}
 use Rattle.std.specs.List.{All}
 use Rattle.std.proofs.lemmas.List.{append-nil, length-append}
 use Rattle.std.proofs.lemmas.List.Elements.{All-head, All-nil, All-push}
@@ -29,99 +30,112 @@ use Rattle.stack_assoc.specs.Tellings.{TellsNext, Tell}
 use Rattle.stack_assoc.proofs.FrontsKept.{said_front, stopped_front}
 use Rattle.stack_assoc.proofs.OfMessages.OneMessage.{message_read}
 use Rattle.stack_assoc.proofs.StreamLaws.{front_front}
-use Rattle.bilateral.specs.Rows.{CentreRows, table_of, device_of}
+use Rattle.bilateral.specs.Rows.{CentreRows, device_of}
 use Rattle.tase_conn.specs.Map.Readings.{arrival_heard, broken_at_end}
 use Rattle.tase_conn.specs.Map.Replied.{answered_number}
+use Rattle.asking_end.specs.declared.asker.Asker.{Asker}
+use Rattle.asking_end.specs.declared.asker.Awaiting.{Awaiting}
+use Rattle.asking_end.specs.declared.asker.Awaiting.TheVariants as awaits
+use Rattle.asking_end.specs.declared.asker.AskMove.{AskMove}
+use Rattle.asking_end.specs.declared.asker.AskMove.TheVariants as moves
+use Rattle.asking_end.specs.declared.end.AskEnd.{AskEnd}
+use Rattle.asking_end.specs.Sayings.{request_pdu, pdu_said}
+use Rattle.asking_end.specs.Asking.{request_awaited, awaited_said, number_awaited, is_awaited}
+use Rattle.asking_end.specs.Hearings.{input_heeded}
+use Rattle.asking_end.specs.Askers.{AskerState, silent, unless_ended, moved, handed_step, with_told}
+use Rattle.asking_end.specs.Askers.{asker_step, step_then, arrival_by, message_step, end_step}
+use Rattle.asking_end.specs.Askers.{asker_from, asker_start, asker_behind}
+use Rattle.asking_end.proofs.HeardSteps.{SaysLater, step-later, step-told, later-then}
+use Rattle.asking_end.proofs.HeardSteps.{expecting-later, alike}
+use Rattle.centre_client.specs.declared.play.Checkback.{Checkback}
+use Rattle.centre_client.specs.declared.play.Doing.{Doing}
+use Rattle.centre_client.specs.declared.play.Doing.TheVariants as doings
 use Rattle.centre_client.specs.declared.script.Script.{Script}
 use Rattle.centre_client.specs.declared.script.Step.{Step}
 use Rattle.centre_client.specs.declared.script.StepKind.{StepKind}
 use Rattle.centre_client.specs.declared.script.StepKind.TheVariants as kinds
-use Rattle.centre_client.specs.declared.play.Awaiting.{Awaiting}
-use Rattle.centre_client.specs.declared.play.Awaiting.TheVariants as awaits
-use Rattle.centre_client.specs.declared.play.ClientMove.{ClientMove}
-use Rattle.centre_client.specs.declared.play.ClientMove.TheVariants as moves
-use Rattle.centre_client.specs.declared.end.ClientEnd.{ClientEnd}
-use Rattle.centre_client.specs.Clients.{ClientState, ClientStep, silent, unless_ended, moved}
-use Rattle.centre_client.specs.Clients.{handed_step, with_told}
-use Rattle.centre_client.specs.Clients.{client_step, step_then, arrival_by, message_step, end_step}
-use Rattle.centre_client.specs.Clients.{client_from, client_start, client_behind, client_of}
 use Rattle.centre_client.specs.Guards.{IsGuardedFirst, AwaitsWrite, IsCheckedBack}
-use Rattle.centre_client.specs.Hearings.{input_heeded}
-use Rattle.centre_client.specs.Plays.{Playing, IsPlay, call_of_first}
-use Rattle.centre_client.specs.Plays.{number_awaited, is_awaited, number_answered, checkback_of}
+use Rattle.centre_client.specs.Plays.{call_of_first, number_answered, checkback_of}
 use Rattle.centre_client.specs.Plays.{select_call}
-use Rattle.centre_client.specs.Sayings.{request_pdu, request_awaited, pdu_said, awaited_said}
+use Rattle.centre_client.specs.Scripted.{Scripted, script_acts, scripted, title_of}
 use Rattle.centre_client.specs.Scripts.{IsScript}
 use Rattle.centre_client.specs.StepLines.{IsStep}
 use Rattle.centre_client.specs.Checkbacks.{ScriptSaying, silence, says_pdu, says_finish, Exchange}
 use Rattle.centre_client.specs.Checkbacks.{saying_octets, octets_exchanged, WritesSelectable}
 use Rattle.centre_client.specs.Checkbacks.{IsCheckback, IsChecked, SaysChecked}
+use Rattle.centre_client.specs.Clients.{ClientStep, client_of}
 use Rattle.centre_client.proofs.Guarded.{checked_before}
-use Rattle.centre_client.proofs.HeardSteps.{SaysLater, step-later, step-told, later-then}
-use Rattle.centre_client.proofs.HeardSteps.{expecting-later, alike}
-use Rattle.centre_client.proofs.PlayedOn.{new-plays}
-use Rattle.centre_client.proofs.Standing.{input-plays}
+use Rattle.centre_client.proofs.PlayedOn.{script_plays}
+use Rattle.centre_client.proofs.PlaysHeard.{MayGoOn, input-plays}
 use Rattle.centre_client.proofs.WaitsOn.{StandsStill, input_waits}
 use Rattle.centre_client.proofs.WritesMeant.{requested, same_said, call_unmeant, operate_meant}
 use Rattle.centre_client.proofs.WritesMeant.{answers_request}
 
+abbrev ClientState : Type 0
+ClientState = AskerState Scripted Checkback
+
+abbrev AskingMove : Type 0
+AskingMove = AskMove Checkback
+
 -- ---- what is said behind a message
 
 -- where this is awaited from now on
-abbrev said_awaiting : CentreRows → Awaiting → Playing → ScriptSaying
-said_awaiting rows awaits.Association q = silence
-said_awaiting rows (awaits.Reports more_reports) q = silence
-said_awaiting rows awaits.Conclusion q = says_pdu pdus.Conclude
-said_awaiting rows awaits.Release q = says_finish
-said_awaiting rows awaiting q = requested (request_awaited rows q)
+abbrev said_awaiting : Awaiting → Asker Scripted → ScriptSaying
+said_awaiting awaits.Association q = silence
+said_awaiting awaits.Nothing q = silence
+said_awaiting awaits.Conclusion q = says_pdu pdus.Conclude
+said_awaiting awaits.Release q = says_finish
+said_awaiting awaits.Reply q = requested (request_awaited script_acts q)
 
-abbrev said_behind : CentreRows → ClientMove → Playing → ScriptSaying
-said_behind rows moves.Say q = said_awaiting rows q.awaiting q
-said_behind rows move q = silence
+abbrev said_behind : AskingMove → Asker Scripted → ScriptSaying
+said_behind moves.Say q = said_awaiting q.awaiting q
+said_behind move q = silence
 
 requested_octets : (setup : AssociationSetup) (pdu : Option MmsPdu)
     → saying_octets setup (requested pdu) ≡ pdu_said setup pdu
 requested_octets setup None = refl
 requested_octets setup (Some pdu) = refl
 
-awaiting_octets : (rows : CentreRows) (setup : AssociationSetup) (awaiting : Awaiting) (q : Playing)
-    → saying_octets setup (said_awaiting rows awaiting q) ≡ awaited_said rows setup awaiting q
-awaiting_octets rows setup awaits.Association q = refl
-awaiting_octets rows setup (awaits.Reports more_reports) q = refl
-awaiting_octets rows setup awaits.Conclusion q = refl
-awaiting_octets rows setup awaits.Release q = refl
-awaiting_octets rows setup awaits.Select q = requested_octets setup (request_awaited rows q)
-awaiting_octets rows setup awaits.Reply q = requested_octets setup (request_awaited rows q)
+awaiting_octets : (setup : AssociationSetup) (awaiting : Awaiting) (q : Asker Scripted)
+    → saying_octets setup (said_awaiting awaiting q)
+    ≡ awaited_said script_acts setup awaiting q
+awaiting_octets setup awaits.Association q = refl
+awaiting_octets setup awaits.Nothing q = refl
+awaiting_octets setup awaits.Conclusion q = refl
+awaiting_octets setup awaits.Release q = refl
+awaiting_octets setup awaits.Reply q = requested_octets setup (request_awaited script_acts q)
 
-moved_octets : (rows : CentreRows) (q : Playing) (move : ClientMove) (s : ClientState)
-    → saying_octets (setup_after s.told) (said_behind rows move q) ≡ (moved rows q move s).said
-moved_octets rows q moves.Wait s = refl
-moved_octets rows q moves.Say s = awaiting_octets rows (setup_after s.told) q.awaiting q
-moved_octets rows q (moves.End end) s = refl
+moved_octets : (q : Asker Scripted) (move : AskingMove) (s : ClientState)
+    → saying_octets (setup_after s.told) (said_behind move q) ≡ (moved script_acts q move s).said
+moved_octets q moves.Wait s = refl
+moved_octets q moves.Say s = awaiting_octets (setup_after s.told) q.awaiting q
+moved_octets q (moves.End end) s = refl
 
 -- ---- where the script stands behind exchanges
 
 -- the last that was said is the request that is awaited
-record Asks (rows : CentreRows) (past : List Exchange) (p : Playing) : Type 0 where
+record Asks (past : List Exchange) (p : Asker Scripted) : Type 0 where
   pub earlier : List Exchange
   pub last : Exchange
   pub between : List Exchange
   pub is : past ≡ earlier ++ last ∷ between
-  pub says : last.says ≡ requested (request_awaited rows p)
-  pub silent : All (λ e. e.says ≡ silence) between
+  pub says : last.says ≡ requested (request_awaited script_acts p)
+  pub silent_since : All (λ e. e.says ≡ silence) between
 
-record Stands (rows : CentreRows) (peer : ℕ) (past : List Exchange) (p : Playing) : Type 0 where
-  pub play : IsPlay rows p
-  pub peer_is : p.peer ≡ peer
-  pub asks : p.awaiting ≡ awaits.Select → Asks rows past p
+record Stands (rows : CentreRows) (peer : ℕ) (past : List Exchange) (p : Asker Scripted) :
+    Type 0 where
+  pub play : MayGoOn p
+  pub rows_are : p.agenda.rows ≡ rows
+  pub peer_is : p.agenda.play.peer ≡ peer
+  pub asks : p.awaiting ≡ awaits.Reply → Asks past p
 
 abbrev an_exchange : Arrival → ScriptSaying → Exchange
 an_exchange t saying = record { heard = t; says = saying }
 
 -- nothing was said
-waits_on : (rows : CentreRows) (past : List Exchange) (p : Playing) (t : Arrival)
-    → Asks rows past p → Asks rows (past ++ an_exchange t silence ∷ []) p
-waits_on rows past p t a =
+waits_on : (past : List Exchange) (p : Asker Scripted) (t : Arrival)
+    → Asks past p → Asks (past ++ an_exchange t silence ∷ []) p
+waits_on past p t a =
     let quiet : Exchange = an_exchange t silence in record {
       earlier = a.earlier;
       last = a.last;
@@ -129,62 +143,90 @@ waits_on rows past p t a =
       is = ap (λ (l : List Exchange). l ++ quiet ∷ []) a.is
           ∙ append_assoc a.earlier (a.last ∷ a.between) (quiet ∷ []);
       says = a.says;
-      silent = All-push (λ (e : Exchange). e.says ≡ silence) a.between quiet a.silent refl;
+      silent_since = All-push (λ (e : Exchange). e.says ≡ silence) a.between quiet a.silent_since
+          refl;
     }
 
 quiet_checked : (rows : CentreRows) (peer : ℕ) (past : List Exchange) (t : Arrival)
     → IsChecked rows peer past (an_exchange t silence)
 quiet_checked rows peer past t = λ device pdu e w. absurd cc
 
-asks_select : (rows : CentreRows) (past : List Exchange) (q : Playing) (t : Arrival)
-    → q.awaiting ≡ awaits.Select
-    → Asks rows (past ++ an_exchange t (said_awaiting rows q.awaiting q) ∷ []) q
-asks_select rows past q t e =
-    let said : Exchange = an_exchange t (said_awaiting rows q.awaiting q) in record {
+asks_reply : (past : List Exchange) (q : Asker Scripted) (t : Arrival)
+    → q.awaiting ≡ awaits.Reply
+    → Asks (past ++ an_exchange t (said_awaiting q.awaiting q) ∷ []) q
+asks_reply past q t e =
+    let said : Exchange = an_exchange t (said_awaiting q.awaiting q) in record {
       earlier = past;
       last = said;
       between = [];
       is = refl;
-      says = ap (λ (a : Awaiting). said_awaiting rows a q) e;
-      silent = All-nil (λ (e : Exchange). e.says ≡ silence);
+      says = ap (λ (a : Awaiting). said_awaiting a q) e;
+      silent_since = All-nil (λ (e : Exchange). e.says ≡ silence);
     }
+
+-- where a reply's number is the one that is awaited, a reply is
+reply_awaited : (p : Asker Scripted) (number : Option ℕ)
+    → is_awaited (number_awaited p) number ≡ true → p.awaiting ≡ awaits.Reply
+reply_awaited p number e = one p.awaiting e
+  where
+    one : (awaiting : Awaiting)
+        → is_awaited (number_awaited (record p { awaiting = awaiting })) number ≡ true
+        → awaiting ≡ awaits.Reply
+    one awaits.Reply e = refl
+    one awaits.Association e = absurd cc
+    one awaits.Nothing e = absurd cc
+    one awaits.Conclusion e = absurd cc
+    one awaits.Release e = absurd cc
 
 -- ---- what is said is checked
 
-module _ (rows : CentreRows) (peer : ℕ) (past : List Exchange) (p : Playing) (t : Arrival)
+-- the request of the step at the front
+abbrev request_of : ℕ → CentreRows → ℕ → Doing → List Step → Option MmsPdu
+request_of number rows peer doing steps =
+    option_map (request_pdu number) (call_of_first rows peer doing steps)
+
+module _ (rows : CentreRows) (peer : ℕ) (past : List Exchange) (p : Asker Scripted) (t : Arrival)
     (input : StackIn) (handed : stack_in t ≡ Some input) (stands : Stands rows peer past p)
-    (q : Playing) (play : IsPlay rows q) (peer_is : q.peer ≡ peer)
-    (guard : AwaitsWrite rows q → IsCheckedBack rows input p q) where
+    (q : Asker Scripted) (play : MayGoOn q) (rows_are : q.agenda.rows ≡ rows)
+    (peer_is : q.agenda.play.peer ≡ peer) (reply : q.awaiting ≡ awaits.Reply)
+    (guard : AwaitsWrite q → IsCheckedBack input p q) where
   -- behind the reply to the select of its step
   checkback_heard : (own : ℕ) (value : ℤ) (line : ℕ) (more : List Step)
-      → q.rest ≡ record { line = line; kind = kinds.Operate own value } ∷ more
-      → IsCheckedBack rows input p q → IsCheckback rows peer own past t
+      → q.agenda.play.rest ≡ record { line = line; kind = kinds.Operate own value } ∷ more
+      → IsCheckedBack input p q → IsCheckback rows peer own past t
   checkback_heard own value line more rest_is k =
-      let a : Asks rows past p = stands.asks k.select in
-      let rest : p.rest ≡ record { line = line; kind = kinds.Operate own value } ∷ more =
+      let awaited : p.awaiting ≡ awaits.Reply =
+      reply_awaited p (answered_number k.pdu) k.awaited in
+      let a : Asks past p = stands.asks awaited in
+      let rest : p.agenda.play.rest
+      ≡ record { line = line; kind = kinds.Operate own value } ∷ more =
       sym k.step ∙ rest_is in
-      let want : checkback_of rows p.rest ≡ (device_of rows own).checkback =
-      ap (checkback_of rows) rest in
-      let requests : request_awaited rows p
+      let want : checkback_of p.agenda.rows p.agenda.play.rest ≡ (device_of rows own).checkback =
+      ap (λ (steps : List Step). checkback_of p.agenda.rows steps) rest
+      ∙ ap (λ (r : CentreRows). (device_of r own).checkback) stands.rows_are in
+      let requests : request_awaited script_acts p
       ≡ Some (request_pdu p.last (select_call rows peer own)) =
-      ap (λ (w : Awaiting). option_map (request_pdu p.last) (call_of_first rows p.peer w p.rest))
+      ap (λ (d : Doing). request_of p.last p.agenda.rows p.agenda.play.peer d p.agenda.play.rest)
       k.select
       ∙ ap (λ (steps : List Step).
-      option_map (request_pdu p.last) (call_of_first rows p.peer awaits.Select steps)) rest
+      request_of p.last p.agenda.rows p.agenda.play.peer doings.Select steps) rest
+      ∙ ap (λ (r : CentreRows). Some (request_pdu p.last
+      (select_call r p.agenda.play.peer own))) stands.rows_are
       ∙ ap (λ (n : ℕ). Some (request_pdu p.last (select_call rows n own))) stands.peer_is in
       let answer : number_answered (device_of rows own).checkback k.reply
       ≡ Some (device_of rows own).checkback =
       subst (λ (z : ℤ). number_answered z k.reply ≡ Some z) want k.answer in
       let waits : is_awaited (Some p.last) (answered_number k.pdu) ≡ true =
       subst (λ (o : Option ℕ). is_awaited o (answered_number k.pdu) ≡ true)
-      (awaits_number p k.select) k.awaited in record {
+      (ap (λ (w : Awaiting). number_awaited (record p { awaiting = w })) awaited) k.awaited in
+      record {
         earlier = a.earlier;
         select = a.last;
         between = a.between;
         is = a.is;
         number = p.last;
         selects = a.says ∙ ap requested requests;
-        silent = a.silent;
+        silent = a.silent_since;
         pdu = k.pdu;
         came = handed ∙ ap (λ (i : StackIn). Some i) k.is;
         answers = answers_request k.pdu k.reply p.last (device_of rows own).checkback
@@ -193,92 +235,116 @@ module _ (rows : CentreRows) (peer : ℕ) (past : List Exchange) (p : Playing) (
         told = k.told;
         checkback = answer;
       }
-    where
-      awaits_number : (p : Playing) → p.awaiting ≡ awaits.Select
-          → number_awaited p ≡ Some p.last
-      awaits_number p e = ap (λ (w : Awaiting). number_awaited (record p { awaiting = w })) e
 
   -- what the step at the front writes
   step_checked : (device : ℕ) (pdu : MmsPdu) (kind : StepKind) (line : ℕ) (more : List Step)
-      → q.awaiting ≡ awaits.Reply → q.rest ≡ record { line = line; kind = kind } ∷ more
+      → q.agenda.play.doing ≡ doings.Reply
+      → q.agenda.play.rest ≡ record { line = line; kind = kind } ∷ more
       → IsStep rows peer kind
-      → requested (option_map (request_pdu q.last)
-      (call_of_first rows peer awaits.Reply (record { line = line; kind = kind } ∷ more)))
+      → requested (request_of q.last rows peer doings.Reply
+      (record { line = line; kind = kind } ∷ more))
       ≡ says_pdu pdu
       → WritesSelectable rows peer device pdu → IsCheckback rows peer device past t
-  step_checked device pdu (kinds.Call call) line more reply rest step e w =
+  step_checked device pdu (kinds.Call call) line more doing rest step e w =
       absurd (call_unmeant rows peer device q.last call step.1
       (subst (WritesSelectable rows peer device)
       (sym (same_said (request_pdu q.last call) pdu e)) w))
-  step_checked device pdu (kinds.Operate own value) line more reply rest step e w =
+  step_checked device pdu (kinds.Operate own value) line more doing rest step e w =
       let same : own ≡ device = operate_meant rows peer device q.last own value step.2
       (subst (WritesSelectable rows peer device) (sym (same_said _ pdu e)) w) in
       let selectable : (device_of rows own).direct ≡ false =
       subst (λ (d : ℕ). (device_of rows d).direct ≡ false) (sym same) w.selectable in
-      let awaited : AwaitsWrite rows q = record {
+      let awaited : AwaitsWrite q = record {
         reply = reply;
-        step = subst (IsGuardedFirst rows) (sym rest) selectable;
+        doing = doing;
+        step = subst (λ (r : CentreRows). IsGuardedFirst r q.agenda.play.rest) (sym rows_are)
+            (subst (IsGuardedFirst rows) (sym rest) selectable);
       } in
       subst (λ (d : ℕ). IsCheckback rows peer d past t) same
       (checkback_heard own value line more rest (guard awaited))
-  step_checked device pdu (kinds.Wait reports) line more reply rest step e w = absurd cc
+  step_checked device pdu (kinds.Wait reports) line more doing rest step e w = absurd cc
 
   reply_checked : (device : ℕ) (pdu : MmsPdu) (steps : List Step)
-      → q.awaiting ≡ awaits.Reply → q.rest ≡ steps
-      → requested (option_map (request_pdu q.last) (call_of_first rows peer awaits.Reply steps))
-      ≡ says_pdu pdu
+      → q.agenda.play.doing ≡ doings.Reply → q.agenda.play.rest ≡ steps
+      → requested (request_of q.last rows peer doings.Reply steps) ≡ says_pdu pdu
       → WritesSelectable rows peer device pdu → IsCheckback rows peer device past t
-  reply_checked device pdu [] reply rest e w = absurd cc
-  reply_checked device pdu (step ∷ more) reply rest e w =
-      let steps : All (λ (s : Step). IsStep rows q.peer s.kind) (step ∷ more) =
-      subst (All (λ (s : Step). IsStep rows q.peer s.kind)) rest play.rest in
+  reply_checked device pdu [] doing rest e w = absurd cc
+  reply_checked device pdu (step ∷ more) doing rest e w =
+      let steps : All (λ (s : Step). IsStep q.agenda.rows q.agenda.play.peer s.kind)
+      (step ∷ more) =
+      subst (All (λ (s : Step). IsStep q.agenda.rows q.agenda.play.peer s.kind)) rest play.rest in
       let first : IsStep rows peer step.kind =
-      subst (λ (n : ℕ). IsStep rows n step.kind) peer_is
-      (All-head (λ (s : Step). IsStep rows q.peer s.kind) step more steps) in
-      step_checked device pdu step.kind step.line more reply rest first e w
+      subst (λ (r : CentreRows). IsStep r peer step.kind) rows_are
+      (subst (λ (n : ℕ). IsStep q.agenda.rows n step.kind) peer_is
+      (All-head (λ (s : Step). IsStep q.agenda.rows q.agenda.play.peer s.kind) step more steps)) in
+      step_checked device pdu step.kind step.line more doing rest first e w
 
   select_checked : (device : ℕ) (pdu : MmsPdu) (steps : List Step)
-      → requested (option_map (request_pdu q.last) (call_of_first rows peer awaits.Select steps))
-      ≡ says_pdu pdu
+      → requested (request_of q.last rows peer doings.Select steps) ≡ says_pdu pdu
       → WritesSelectable rows peer device pdu → ⊥
   select_checked device pdu [] e w = absurd cc
   select_checked device pdu (step ∷ more) e w = by_kind step.kind step.line e
     where
       by_kind : (kind : StepKind) (line : ℕ)
-          → requested (option_map (request_pdu q.last)
-          (call_of_first rows peer awaits.Select (record { line = line; kind = kind } ∷ more)))
-          ≡ says_pdu pdu → ⊥
+          → requested (request_of q.last rows peer doings.Select
+          (record { line = line; kind = kind } ∷ more)) ≡ says_pdu pdu → ⊥
       by_kind (kinds.Call call) line e = absurd cc
       by_kind (kinds.Operate own value) line e =
           call_unmeant rows peer device q.last (select_call rows peer own) refl
           (subst (WritesSelectable rows peer device) (sym (same_said _ pdu e)) w)
       by_kind (kinds.Wait reports) line e = absurd cc
 
-  concluded_unmeant : (device : ℕ) → WritesSelectable rows peer device pdus.Conclude → ⊥
-  concluded_unmeant device w = absurd (cc w.is)
+  waits_checked : (count device : ℕ) (pdu : MmsPdu) (steps : List Step)
+      → requested (request_of q.last rows peer (doings.Reports count) steps) ≡ says_pdu pdu → ⊥
+  waits_checked count device pdu [] e = absurd cc
+  waits_checked count device pdu (step ∷ more) e = by_kind step.kind step.line e
+    where
+      by_kind : (kind : StepKind) (line : ℕ)
+          → requested (request_of q.last rows peer (doings.Reports count)
+          (record { line = line; kind = kind } ∷ more)) ≡ says_pdu pdu → ⊥
+      by_kind (kinds.Call call) line e = absurd cc
+      by_kind (kinds.Operate own value) line e = absurd cc
+      by_kind (kinds.Wait reports) line e = absurd cc
 
-  at_peer : (awaiting : Awaiting) → q.awaiting ≡ awaiting
-      → request_awaited rows q
-      ≡ option_map (request_pdu q.last) (call_of_first rows peer awaiting q.rest)
-  at_peer awaiting e =
-      ap (λ (w : Awaiting). option_map (request_pdu q.last) (call_of_first rows q.peer w q.rest)) e
-      ∙ ap (λ (n : ℕ). option_map (request_pdu q.last) (call_of_first rows n awaiting q.rest))
-      peer_is
+  -- of these tables, and of this peer
+  at_peer : (doing : Doing) → q.agenda.play.doing ≡ doing
+      → request_awaited script_acts q ≡ request_of q.last rows peer doing q.agenda.play.rest
+  at_peer doing e =
+      ap (λ (d : Doing). request_of q.last q.agenda.rows q.agenda.play.peer d q.agenda.play.rest) e
+      ∙ ap (λ (r : CentreRows). request_of q.last r q.agenda.play.peer doing q.agenda.play.rest)
+      rows_are
+      ∙ ap (λ (n : ℕ). request_of q.last rows n doing q.agenda.play.rest) peer_is
 
+  doing_checked : (doing : Doing) → q.agenda.play.doing ≡ doing
+      → IsChecked rows peer past (an_exchange t (requested (request_awaited script_acts q)))
+  doing_checked doings.Select is = λ device pdu e w.
+      absurd (select_checked device pdu q.agenda.play.rest
+      (ap requested (sym (at_peer doings.Select is)) ∙ e) w)
+  doing_checked doings.Reply is = λ device pdu e w.
+      reply_checked device pdu q.agenda.play.rest is refl
+      (ap requested (sym (at_peer doings.Reply is)) ∙ e) w
+  doing_checked (doings.Reports count) is = λ device pdu e w.
+      absurd (waits_checked count device pdu q.agenda.play.rest
+      (ap requested (sym (at_peer (doings.Reports count) is)) ∙ e))
+
+concluded_unmeant : (rows : CentreRows) (peer device : ℕ)
+    → WritesSelectable rows peer device pdus.Conclude → ⊥
+concluded_unmeant rows peer device w = absurd (cc w.is)
+
+module _ (rows : CentreRows) (peer : ℕ) (past : List Exchange) (p : Asker Scripted) (t : Arrival)
+    (input : StackIn) (handed : stack_in t ≡ Some input) (stands : Stands rows peer past p)
+    (q : Asker Scripted) (play : MayGoOn q) (rows_are : q.agenda.rows ≡ rows)
+    (peer_is : q.agenda.play.peer ≡ peer) (guard : AwaitsWrite q → IsCheckedBack input p q) where
   awaiting_checked : (awaiting : Awaiting) → q.awaiting ≡ awaiting
-      → IsChecked rows peer past (an_exchange t (said_awaiting rows awaiting q))
+      → IsChecked rows peer past (an_exchange t (said_awaiting awaiting q))
   awaiting_checked awaits.Association is = quiet_checked rows peer past t
-  awaiting_checked (awaits.Reports more_reports) is = quiet_checked rows peer past t
+  awaiting_checked awaits.Nothing is = quiet_checked rows peer past t
   awaiting_checked awaits.Conclusion is = λ device pdu e w.
-      absurd (concluded_unmeant device
+      absurd (concluded_unmeant rows peer device
       (subst (WritesSelectable rows peer device) (sym (same_said pdus.Conclude pdu e)) w))
   awaiting_checked awaits.Release is = λ device pdu e w. absurd cc
-  awaiting_checked awaits.Select is = λ device pdu e w.
-      absurd (select_checked device pdu q.rest
-      (ap requested (sym (at_peer awaits.Select is)) ∙ e) w)
-  awaiting_checked awaits.Reply is = λ device pdu e w.
-      reply_checked device pdu q.rest is refl
-      (ap requested (sym (at_peer awaits.Reply is)) ∙ e) w
+  awaiting_checked awaits.Reply is = doing_checked rows peer past p t input handed stands q play
+      rows_are peer_is is guard q.agenda.play.doing refl
 
 -- ---- a message
 
@@ -286,96 +352,103 @@ module _ (rows : CentreRows) (peer : ℕ) (past : List Exchange) (p : Playing) (
 record Exchanges (rows : CentreRows) (peer : ℕ) (past : List Exchange) (s : ClientState)
     (t : Arrival) : Type 0 where
   pub says : ScriptSaying
-  pub octets : (client_step rows t s).said
+  pub octets : (asker_step script_acts t s).said
       ≡ answer_to s.role t ++ saying_octets (setup_after (s.told ++ t ∷ [])) says
   pub checked : IsChecked rows peer past (an_exchange t says)
-  pub stands : (client_step rows t s).state.end ≡ None
-      → Stands rows peer (past ++ an_exchange t says ∷ []) (client_step rows t s).state.playing
+  pub stands : (asker_step script_acts t s).state.end ≡ None
+      → Stands rows peer (past ++ an_exchange t says ∷ []) (asker_step script_acts t s).state.asker
 
-moved_playing : (rows : CentreRows) (q : Playing) (move : ClientMove) (s : ClientState)
-    → (moved rows q move s).state.playing ≡ q
-moved_playing rows q moves.Wait s = refl
-moved_playing rows q moves.Say s = refl
-moved_playing rows q (moves.End end) s = refl
+moved_asker : (q : Asker Scripted) (move : AskingMove) (s : ClientState)
+    → (moved script_acts q move s).state.asker ≡ q
+moved_asker q moves.Wait s = refl
+moved_asker q moves.Say s = refl
+moved_asker q (moves.End end) s = refl
 
 module _ (rows : CentreRows) (peer : ℕ) (past : List Exchange) (s : ClientState) (t : Arrival)
-    (stands : Stands rows peer past s.playing) where
+    (stands : Stands rows peer past s.asker) where
   nothing_handed : stack_in t ≡ None → Exchanges rows peer past s t
   nothing_handed none = record {
     says = silence;
     octets = ap (λ (o : Option StackIn). answer_to s.role t
-        ++ (handed_step rows o (with_told t s)).said) none;
+        ++ (handed_step script_acts o (with_told t s)).said) none;
     checked = quiet_checked rows peer past t;
     stands = λ e. record {
-      play = subst (IsPlay rows) (sym playing_is) stands.play;
-      peer_is = ap (λ (p : Playing). p.peer) playing_is ∙ stands.peer_is;
-      asks = subst (λ (p : Playing). p.awaiting ≡ awaits.Select
-          → Asks rows (past ++ an_exchange t silence ∷ []) p) (sym playing_is)
-          (λ select. waits_on rows past s.playing t (stands.asks select));
+      play = subst MayGoOn (sym asker_is) stands.play;
+      rows_are = ap (λ (p : Asker Scripted). p.agenda.rows) asker_is ∙ stands.rows_are;
+      peer_is = ap (λ (p : Asker Scripted). p.agenda.play.peer) asker_is ∙ stands.peer_is;
+      asks = subst (λ (p : Asker Scripted). p.awaiting ≡ awaits.Reply
+          → Asks (past ++ an_exchange t silence ∷ []) p) (sym asker_is)
+          (λ awaited. waits_on past s.asker t (stands.asks awaited));
     };
   }
     where
-      playing_is : (client_step rows t s).state.playing ≡ s.playing
-      playing_is = ap (λ (o : Option StackIn). (handed_step rows o (with_told t s)).state.playing)
+      asker_is : (asker_step script_acts t s).state.asker ≡ s.asker
+      asker_is = ap
+          (λ (o : Option StackIn). (handed_step script_acts o (with_told t s)).state.asker)
           none
 
   module _ (input : StackIn) (handed : stack_in t ≡ Some input) where
-    abbrev q : Playing
-    q = (input_heeded rows input s.playing).0
+    abbrev q : Asker Scripted
+    q = (input_heeded script_acts input s.asker).0
 
-    abbrev move : ClientMove
-    move = (input_heeded rows input s.playing).1
+    abbrev move : AskingMove
+    move = (input_heeded script_acts input s.asker).1
 
-    play : IsPlay rows q
-    play = input-plays rows input s.playing stands.play
+    play : MayGoOn q
+    play = input-plays input s.asker stands.play
 
-    peer_is : q.peer ≡ peer
-    peer_is = (input_waits rows input s.playing).peer ∙ stands.peer_is
+    rows_are : q.agenda.rows ≡ rows
+    rows_are = (input_waits input s.asker).rows ∙ stands.rows_are
 
-    move_checked : (m : ClientMove) → move ≡ m
-        → IsChecked rows peer past (an_exchange t (said_behind rows m q))
+    peer_is : q.agenda.play.peer ≡ peer
+    peer_is = (input_waits input s.asker).peer ∙ stands.peer_is
+
+    move_checked : (m : AskingMove) → move ≡ m
+        → IsChecked rows peer past (an_exchange t (said_behind m q))
     move_checked moves.Wait e = quiet_checked rows peer past t
-    move_checked moves.Say e = awaiting_checked rows peer past s.playing t input handed stands q
-        play peer_is (checked_before rows input s.playing e) q.awaiting refl
+    move_checked moves.Say e = awaiting_checked rows peer past s.asker t input handed stands q
+        play rows_are peer_is (checked_before input s.asker e) q.awaiting refl
     move_checked (moves.End end) e = quiet_checked rows peer past t
 
-    move_stands : (m : ClientMove) → move ≡ m
-        → (moved rows q m (with_told t s)).state.end ≡ None
-        → Stands rows peer (past ++ an_exchange t (said_behind rows m q) ∷ []) q
+    move_stands : (m : AskingMove) → move ≡ m
+        → (moved script_acts q m (with_told t s)).state.end ≡ None
+        → Stands rows peer (past ++ an_exchange t (said_behind m q) ∷ []) q
     move_stands moves.Wait e lasts = record {
       play = play;
+      rows_are = rows_are;
       peer_is = peer_is;
-      asks = λ select.
-          let same : q ≡ s.playing =
-          subst (λ (m : ClientMove). StandsStill m s.playing q) e
-          (input_waits rows input s.playing).same select in
-          let awaited : s.playing.awaiting ≡ awaits.Select =
-          sym (ap (λ (p : Playing). p.awaiting) same) ∙ select in
-          subst (Asks rows (past ++ an_exchange t silence ∷ [])) (sym same)
-          (waits_on rows past s.playing t (stands.asks awaited));
+      asks = λ reply.
+          let same : q ≡ s.asker =
+          subst (λ (m : AskingMove). StandsStill m s.asker q) e
+          (input_waits input s.asker).same reply in
+          let awaited : s.asker.awaiting ≡ awaits.Reply =
+          sym (ap (λ (p : Asker Scripted). p.awaiting) same) ∙ reply in
+          subst (Asks (past ++ an_exchange t silence ∷ [])) (sym same)
+          (waits_on past s.asker t (stands.asks awaited));
     }
     move_stands moves.Say e lasts = record {
       play = play;
+      rows_are = rows_are;
       peer_is = peer_is;
-      asks = asks_select rows past q t;
+      asks = asks_reply past q t;
     }
     move_stands (moves.End end) e lasts = absurd cc
 
     input_handed : Exchanges rows peer past s t
     input_handed = record {
-      says = said_behind rows move q;
+      says = said_behind move q;
       octets = ap (λ (o : Option StackIn). answer_to s.role t
-          ++ (handed_step rows o (with_told t s)).said) handed
+          ++ (handed_step script_acts o (with_told t s)).said) handed
           ∙ ap (λ (l : List ℕ). answer_to s.role t ++ l)
-          (sym (moved_octets rows q move (with_told t s)));
+          (sym (moved_octets q move (with_told t s)));
       checked = move_checked move refl;
       stands = λ lasts.
-          let state_is : (client_step rows t s).state
-          ≡ (moved rows q move (with_told t s)).state =
-          ap (λ (o : Option StackIn). (handed_step rows o (with_told t s)).state) handed in
-          subst (Stands rows peer (past ++ an_exchange t (said_behind rows move q) ∷ []))
-          (sym (ap (λ (x : ClientState). x.playing) state_is
-          ∙ moved_playing rows q move (with_told t s)))
+          let state_is : (asker_step script_acts t s).state
+          ≡ (moved script_acts q move (with_told t s)).state =
+          ap (λ (o : Option StackIn). (handed_step script_acts o (with_told t s)).state) handed in
+          subst (Stands rows peer (past ++ an_exchange t (said_behind move q) ∷ []))
+          (sym (ap (λ (x : ClientState). x.asker) state_is
+          ∙ moved_asker q move (with_told t s)))
           (move_stands move refl
           (sym (ap (λ (x : ClientState). x.end) state_is) ∙ lasts));
     }
@@ -486,13 +559,14 @@ module _ (rows : CentreRows) (peer : ℕ) (past : List Exchange) (s : ClientStat
   -- a message more
   heard_more : (t : Arrival) → arrival_by s.role s.told m ≡ came t
       → (e : Exchanges rows peer past s t)
-      → Exchanged rows peer (past ++ an_exchange t e.says ∷ []) (client_step rows t s).state ms
-      (next (client_step rows t s).state)
-      → Exchanged rows peer past s (m ∷ ms) (step_then (client_step rows t s) next)
+      → Exchanged rows peer (past ++ an_exchange t e.says ∷ [])
+      (asker_step script_acts t s).state ms
+      (next (asker_step script_acts t s).state)
+      → Exchanged rows peer past s (m ∷ ms) (step_then (asker_step script_acts t s) next)
   heard_more t came_is e x =
-      let st : ClientState = (client_step rows t s).state in
+      let st : ClientState = (asker_step script_acts t s).state in
       let end : Role = (next st).state.role in
-      let told : st.told ≡ s.told ++ t ∷ [] = step-told rows t s in
+      let told : st.told ≡ s.told ++ t ∷ [] = step-told script_acts t s in
       let longer : length s.told ≤ length st.told = omega (
         arith,
         ap length told,
@@ -500,7 +574,7 @@ module _ (rows : CentreRows) (peer : ℕ) (past : List Exchange) (s : ClientStat
       ) in
       let later : SaysLater (length s.told) s.role end =
       later-then (length s.told) s.role st.role end
-      (step-later (length s.told) rows t s (omega arith))
+      (step-later (length s.told) script_acts t s (omega arith))
       (later_before (length s.told) (length st.told) st.role end longer x.later) in
       let heard_is : arrival_by end s.told m ≡ came t =
       alike end s.role s.told m (expecting-later s.role end s.told later) ∙ came_is in
@@ -525,19 +599,20 @@ module _ (rows : CentreRows) (peer : ℕ) (past : List Exchange) (s : ClientStat
       }
 
   message_heard : (r : Result Arrival StackFault) → arrival_by s.role s.told m ≡ r
-      → Stands rows peer past s.playing
+      → Stands rows peer past s.asker
       → ((t : Arrival) → (e : Exchanges rows peer past s t)
-      → Exchanged rows peer (past ++ an_exchange t e.says ∷ []) (client_step rows t s).state ms
-      (next (client_step rows t s).state))
-      → Exchanged rows peer past s (m ∷ ms) (message_step rows next s r)
+      → Exchanged rows peer (past ++ an_exchange t e.says ∷ [])
+      (asker_step script_acts t s).state ms
+      (next (asker_step script_acts t s).state))
+      → Exchanged rows peer past s (m ∷ ms) (message_step script_acts next s r)
   message_heard (Ok t) came_is stands rest =
       let e : Exchanges rows peer past s t = exchange_of rows peer past s t stands in
       heard_more t came_is e (rest t e)
   message_heard (Err f) came_is stands rest =
-      unheard rows peer past s (m ∷ ms) (message_step rows next s (Err f)) refl refl
+      unheard rows peer past s (m ∷ ms) (message_step script_acts next s (Err f)) refl refl
 
 unless_heard : (rows : CentreRows) (peer : ℕ) (past : List Exchange) (s : ClientState)
-    (ms : List Message) (r : ClientStep) (end : Option ClientEnd) → s.end ≡ end
+    (ms : List Message) (r : ClientStep) (end : Option (AskEnd Checkback)) → s.end ≡ end
     → (s.end ≡ None → Exchanged rows peer past s ms r)
     → Exchanged rows peer past s ms (unless_ended end s r)
 unless_heard rows peer past s ms r None e goes = goes e
@@ -551,19 +626,20 @@ end_heard rows peer past s (Some f) =
     unheard rows peer past s [] (end_step (Some f) s) refl refl
 
 exchanged_from : (rows : CentreRows) (peer : ℕ) (broken : Option StackFault) (ms : List Message)
-    (past : List Exchange) (s : ClientState) → (s.end ≡ None → Stands rows peer past s.playing)
-    → Exchanged rows peer past s ms (client_from rows broken ms s)
+    (past : List Exchange) (s : ClientState) → (s.end ≡ None → Stands rows peer past s.asker)
+    → Exchanged rows peer past s ms (asker_from script_acts broken ms s)
 exchanged_from rows peer broken [] past s stands =
     unless_heard rows peer past s [] (end_step broken s) s.end refl
     (λ lasts. end_heard rows peer past s broken)
 exchanged_from rows peer broken (m ∷ ms) past s stands =
     unless_heard rows peer past s (m ∷ ms)
-    (message_step rows (client_from rows broken ms) s (arrival_by s.role s.told m)) s.end refl
+    (message_step script_acts (asker_from script_acts broken ms) s
+    (arrival_by s.role s.told m)) s.end refl
     (λ lasts.
-    message_heard rows peer past s m ms (client_from rows broken ms)
+    message_heard rows peer past s m ms (asker_from script_acts broken ms)
     (arrival_by s.role s.told m) refl (stands lasts)
     (λ t e. exchanged_from rows peer broken ms (past ++ an_exchange t e.says ∷ [])
-    (client_step rows t s).state e.stands))
+    (asker_step script_acts t s).state e.stands))
 
 -- ---- all octets
 
@@ -614,20 +690,22 @@ called_first = connection_request_octets 1
 -- whatever octets have come
 pub says_checked : (rows : CentreRows) (script : Script) (octets : List ℕ) → IsScript rows script
     → SaysChecked rows script octets (client_of rows script octets).said
-unfolding client_behind
+unfolding asker_behind
 says_checked rows script octets lawful =
     let all : List Message = messages_of (stream_in sorts.Calling octets).messages in
     let broken : Option StackFault = broken_at_end (stream_in sorts.Calling octets).end in
-    let start : ClientState = client_start rows script in
-    let title : Option (List ℕ) = (table_of rows script.peer).title in
-    let x : Exchanged rows script.peer [] start all (client_from rows broken all start) =
+    let start : ClientState =
+    asker_start script_acts (title_of rows script) (scripted rows script) in
+    let title : Option (List ℕ) = title_of rows script in
+    let x : Exchanged rows script.peer [] start all (asker_from script_acts broken all start) =
     exchanged_from rows script.peer broken all [] start (λ lasts. record {
-      play = new-plays rows script lawful;
+      play = script_plays rows script lawful;
+      rows_are = refl;
       peer_is = refl;
-      asks = λ select. absurd cc;
+      asks = λ awaited. absurd cc;
     }) in
-    let role : IsCalling title (client_from rows broken all start).state.role =
-    calling_later title (client_from rows broken all start).state.role x.later in
+    let role : IsCalling title (asker_from script_acts broken all start).state.role =
+    calling_later title (asker_from script_acts broken all start).state.role x.later in
     let starts : StartsWith sorts.Calling octets (x.front ++ x.others) =
     subst (StartsWith sorts.Calling octets) x.are (starts_with_all octets) in
     record {

@@ -1,20 +1,18 @@
+pub mod Called
 pub mod FirstErrors
 pub mod Spelled
 pub mod Playable
 pub mod PlayedOn
-pub mod HeardSteps
-pub mod Guarded
-pub mod Numbering
 pub mod WaitsOn
+pub mod PlaysHeard
+pub mod Guarded
 pub mod WritesMeant
 pub mod Exchanged
-pub mod ShortRequests
 pub mod DeviceRequests
-pub mod StepsOn
-pub mod Standing
-pub mod Callers
-pub mod Turned
 mod Worked
 mod WorkedClients
-pub mod OfService
-mod FrontLines
+pub mod ValuesSized
+pub mod MembersSized
+pub mod NamesSized
+pub mod CallsSized
+pub mod LineFaultsMet

@@ -49,7 +49,7 @@ behind-if rows peer texts script is = one (steps_in rows peer texts) refl is
         }
     one (Err fault) at is = absurd cc
 
-spells-if : (rows : CentreRows) (text : List ℕ) (script : Script)
+pub spells-if : (rows : CentreRows) (text : List ℕ) (script : Script)
     → script_in rows text ≡ Ok script → SpellsScript rows text script
 spells-if rows text script is = parts (numbered_lines text) refl is
   where

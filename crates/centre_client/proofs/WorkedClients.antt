@@ -16,10 +16,12 @@ use Rattle.tase_views.specs.declared.call.CallKind.TheVariants.{Identify}
 use Rattle.tase_views.specs.declared.reply.ReplyKind.TheVariants as replies
 use Rattle.centre_client.specs.declared.script.Script.{Script}
 use Rattle.centre_client.specs.declared.script.StepKind.TheVariants.{Call, Operate}
-use Rattle.centre_client.specs.declared.end.ClientEnd.{ClientEnd}
-use Rattle.centre_client.specs.declared.end.ClientEnd.TheVariants as ends
-use Rattle.centre_client.specs.Hearings.{shown_reply_line}
-use Rattle.centre_client.specs.Clients.{ClientStep, client_start, client_steps, client_step}
+use Rattle.asking_end.specs.declared.end.AskEnd.{AskEnd}
+use Rattle.asking_end.specs.declared.end.AskEnd.TheVariants as ends
+use Rattle.asking_end.specs.Askers.{asker_start, asker_steps, asker_step}
+use Rattle.centre_client.specs.declared.play.Checkback.{Checkback}
+use Rattle.centre_client.specs.Scripted.{script_acts, scripted, title_of, shown_reply_line}
+use Rattle.centre_client.specs.Clients.{ClientStep}
 
 -- peer A controls a device that is selected, whose table tells this checkback
 abbrev rows : ℕ → CentreRows
@@ -53,10 +55,11 @@ response number r = heard (heards.Pdu (pdus.Response number r))
 -- the connect confirm, the accept, and what comes behind them
 abbrev hearing : ℕ → Script → ConnectConfirm → Accepting → List Arrival → ClientStep
 hearing checkback script confirm accept told =
-    client_steps (rows checkback) (confirmed confirm ∷ heard (heards.Accept accept) ∷ told)
-    (client_start (rows checkback) script)
+    asker_steps script_acts (confirmed confirm ∷ heard (heards.Accept accept) ∷ told)
+    (asker_start script_acts (title_of (rows checkback) script)
+    (scripted (rows checkback) script))
 
-abbrev ended_by : ClientStep → Option ClientEnd
+abbrev ended_by : ClientStep → Option (AskEnd Checkback)
 ended_by r = r.state.end
 
 -- the select is answered 77
@@ -72,7 +75,8 @@ selection_line = shown_reply_line (replies.Results None (Good (integer (pos 77))
 
 -- where the table tells 78, the client ends there: the answer is shown, and no write is said
 other_checkback : (c : ConnectConfirm) (a : Accepting)
-    → (hearing 78 operating c a (selected ∷ [])).state.end ≡ Some (ends.Checkback (pos 78) (pos 77))
+    → (hearing 78 operating c a (selected ∷ [])).state.end
+    ≡ Some (ends.ByAgenda (record { want = pos 78; got = pos 77 }))
 other_checkback c a = refl
 
 other_shown : (c : ConnectConfirm) (a : Accepting)
@@ -80,7 +84,7 @@ other_shown : (c : ConnectConfirm) (a : Accepting)
 other_shown c a = refl
 
 nothing_written : (c : ConnectConfirm) (a : Accepting)
-    → (client_step (rows 78) selected (hearing 78 operating c a []).state).said ≡ []
+    → (asker_step script_acts selected (hearing 78 operating c a []).state).said ≡ []
 nothing_written c a = refl
 
 -- where it tells 77, the value is written, and the association is concluded and released

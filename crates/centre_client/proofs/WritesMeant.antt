@@ -1,8 +1,8 @@
 -- Which devices the requests of a script write, and of which request a checkback is the reply.
 use Rattle.std.proofs.Common.{◌≡◌, ℕ, ℤ, Bool, true, false, List, [], ◌∷◌, Option, Some, None}
 use Rattle.std.proofs.Common.{refl, sym, ap, subst, ◌∙◌}
-use Rattle.std.specs.Prelude.{◌&&◌, bytes_eq, not, option_map, ◌==◌}
-use Rattle.std.specs.List.{All, Contains, list_any}
+use Rattle.std.specs.Prelude.{◌&&◌, not, ◌==◌}
+use Rattle.std.specs.List.{Contains, list_any}
 use Rattle.std.proofs.lemmas.Bool.{true≢false}
 use Rattle.std.proofs.lemmas.Bool.Decides.{Decides-eqb}
 use Rattle.std.proofs.lemmas.List.Elements.{All-contains, All-cons, All-nil}
@@ -23,15 +23,12 @@ use Rattle.tase_views.specs.declared.call.CallKind.TheVariants as calls
 use Rattle.tase_views.specs.declared.reply.ReplyKind.{ReplyKind}
 use Rattle.tase_conn.specs.Map.Asked.{request_in}
 use Rattle.tase_conn.specs.Map.Replied.{reply_in, answered_number}
-use Rattle.centre_client.specs.declared.script.Step.{Step}
-use Rattle.centre_client.specs.declared.script.StepKind.{StepKind}
-use Rattle.centre_client.specs.declared.script.StepKind.TheVariants as kinds
-use Rattle.centre_client.specs.declared.play.Awaiting.TheVariants as awaits
 use Rattle.centre_client.specs.StepLines.{controlled_device, is_guarded, is_selected_first}
-use Rattle.centre_client.specs.StepLines.{writes_guarded, IsStep}
+use Rattle.centre_client.specs.StepLines.{writes_guarded}
 use Rattle.centre_client.specs.Plays.{device_variable, variable_list, operate_call}
-use Rattle.centre_client.specs.Plays.{is_awaited, number_answered, call_of_first}
-use Rattle.centre_client.specs.Sayings.{request_pdu}
+use Rattle.asking_end.specs.Asking.{is_awaited}
+use Rattle.centre_client.specs.Plays.{number_answered}
+use Rattle.asking_end.specs.Sayings.{request_pdu}
 use Rattle.centre_client.specs.Checkbacks.{ScriptSaying, silence, says_pdu, WritesSelectable}
 
 -- ---- what a request writes

@@ -24,7 +24,7 @@ use Rattle.tase_conn.specs.Map.Out.{said}
 use Rattle.tase_conn.specs.Map.Replied.{reply_in, answered_number}
 use Rattle.centre_client.specs.declared.script.Script.{Script}
 use Rattle.centre_client.specs.Plays.{device_variable, select_call, number_answered}
-use Rattle.centre_client.specs.Sayings.{request_pdu, finish_said}
+use Rattle.asking_end.specs.Sayings.{request_pdu, finish_said}
 use Rattle.centre_client.specs.StepLines.{controlled_device}
 
 -- what is said behind a message for the script: nothing, a PDU, the finish

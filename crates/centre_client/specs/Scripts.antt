@@ -40,6 +40,11 @@ pub record SpellsScript (rows : CentreRows) (text : List ℕ) (script : Script) 
   pub peer : peer_at rows first ≡ Ok script.peer
   pub steps : AreSteps rows script.peer more script.steps
 
+-- the text spells a script, so no line of it is bad
+pub record IsScriptText (rows : CentreRows) (text : List ℕ) : Type 0 where
+  pub script : Script
+  pub spelled : SpellsScript rows text script
+
 -- no line of the text says anything: the line after its last one is missed
 pub record IsSilent (text : List ℕ) (fault : ScriptFault) : Type 0 where
   pub none : numbered_lines text ≡ []

@@ -23,7 +23,8 @@ use Rattle.centre_client.specs.declared.fault.ScriptWhy.TheVariants.{Start, Word
 use Rattle.centre_client.specs.declared.fault.ScriptWhy.TheVariants.{Selectable}
 use Rattle.centre_client.specs.declared.script.StepKind.{StepKind}
 use Rattle.centre_client.specs.declared.script.StepKind.TheVariants as kinds
-use Rattle.centre_client.specs.declared.steps.TheConstants.{LAST_INVOKE, REQUEST_LIMIT, WAIT_LIMIT}
+use Rattle.asking_end.specs.declared.limits.TheConstants.{LAST_INVOKE, REQUEST_LIMIT}
+use Rattle.centre_client.specs.declared.steps.TheConstants.{WAIT_LIMIT}
 
 -- `KEY` behind `use`
 abbrev pub key_behind_use : List (List ℕ) → Option (List ℕ)

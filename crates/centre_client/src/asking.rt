@@ -1,36 +1,17 @@
-//! What a client asks: the requests of calls, and those by which a device is operated.
+//! The calls by which a client operates a device.
 ghost use Rattle.std.specs.Prelude.{◌≡◌, ◌<◌, ◌≤◌, ◌++◌, IfOk, true, false, length};
 ghost use Rattle.ber_values.specs.Visible.{IsVisible};
 ghost use Rattle.mms_data.specs.ObjectName.{IsIdentifier};
 ghost use Rattle.bilateral.specs.Words.Words.{is_name};
 ghost use Rattle.bilateral.specs.Rows.{table_of, device_of};
-ghost use Rattle.tase_conn.specs.Map.Asked.{is_odd};
+ghost use Rattle.asking_end.specs.Sayings.{IsAskable};
 ghost use Rattle.centre_client.specs.Plays as own;
-ghost use Rattle.centre_client.specs.Sayings.{request_pdu, IsSayable, IsShort};
 
-use crate::steps::LAST_INVOKE;
 use ber_values::Visible;
 use bilateral::{Centre, DeviceRow};
 use mms_data::{DataKind, MmsData, Name, Names, Scope};
-use mms_services::MmsPdu;
 use std::alloc::{AllocError, Global};
-use tase_conn::map::request_of;
 use tase_views::{Call, CallKind, Values};
-
-/// The request of a call, with this number.
-pub(crate) fn request_pdu(alloc: Global, number: u32, call: &Call) -> Result<MmsPdu, AllocError>
-    requires service { is_odd call.now ≡ false }
-    requires short { IsShort call.now }
-    requires number { number ≤ LAST_INVOKE }
-    ensures exact { IfOk result (λ pdu. pdu ≡ request_pdu number call.now) }
-    ensures sayable { IfOk result IsSayable }
-{
-    let request = request_of(alloc, call)?;
-    Ok(MmsPdu::Request {
-        invoke: number,
-        request,
-    })
-}
 
 /// The read of a device's selection.
 pub(crate) fn select_call(
@@ -42,7 +23,7 @@ pub(crate) fn select_call(
     requires peer { peer < length centre.now.tables }
     requires device { device < length centre.now.devices }
     ensures value { IfOk result (λ call. call ≡ own.select_call centre.now peer device) }
-    ensures short { IfOk result IsShort }
+    ensures askable { IfOk result IsAskable }
 {
     let item = item_of(alloc, centre, device, b"_SBO")?;
     let names = variable_list(alloc, centre, peer, item)?;
@@ -60,7 +41,7 @@ pub(crate) fn operate_call(
     requires peer { peer < length centre.now.tables }
     requires device { device < length centre.now.devices }
     ensures value { IfOk result (λ call. call ≡ own.operate_call centre.now peer device value) }
-    ensures short { IfOk result IsShort }
+    ensures askable { IfOk result IsAskable }
 {
     let item = item_of(alloc, centre, device, b"")?;
     let names = variable_list(alloc, centre, peer, item)?;

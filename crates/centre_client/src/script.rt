@@ -7,13 +7,12 @@ ghost use Rattle.centre_client.specs.declared.fault.ScriptFault.{ScriptFault as 
 ghost use Rattle.centre_client.specs.NumberedLines.{numbered_from};
 ghost use Rattle.centre_client.specs.Scripts.{SpellsScript, HasScriptFault, script_in, steps_in};
 ghost use Rattle.centre_client.specs.Scripts.{script_behind};
-ghost use Rattle.centre_client.specs.Scripts.{IsScript};
-ghost use Rattle.centre_client.specs.Fronts.{HasGoodFront};
-ghost use Rattle.centre_client.specs.Fronts as own;
+ghost use Rattle.centre_client.specs.Scripts.{IsScript, IsScriptText};
+ghost use Rattle.centre_client.specs.LineFaults.{error_told, first_fault_in};
 
 use crate::fault::{ScriptFault, ScriptWhy};
 use crate::numbered::{next_numbered, number_behind};
-use crate::steps::{is_call, read_peer, read_step};
+use crate::steps::{read_peer, read_step, step_fault};
 use bilateral::Centre;
 use item_list::ItemList;
 use std::alloc::{AllocError, Global};
@@ -55,8 +54,7 @@ pub struct Script {
 /// peer; each line behind it is a step: `call CALL`, where the call is written as in a scenario and
 /// neither writes a device that has to be selected nor is longer than the client offers;
 /// `operate NAME VALUE`, a device of the peer's table and a number of 16 bits; or `wait N`, reports
-/// from 1 to 1,000,000. A bad line in front of the first call is told whether memory is left or
-/// not.
+/// from 1 to 1,000,000. A bad line is told whether memory is left or not.
 pub fn read_script(
     alloc: Global,
     centre: &Centre,
@@ -69,7 +67,8 @@ pub fn read_script(
     ensures fault { (fault : Fault) → HasScriptFault centre.now text.now fault
         → IfOk result (λ read. read ≡ Err fault) }
     ensures lawful { IfOk result (λ read. IfOk read (IsScript centre.now)) }
-    ensures memory { IsErr result → HasGoodFront centre.now text.now }
+    // Memory is wanting only for a script without a bad line.
+    ensures memory { IsErr result → IsScriptText centre.now text.now }
 {
     read_lines(alloc, centre, text)
 }
@@ -81,7 +80,7 @@ fn read_lines(
     text: &[u8],
 ) -> Result<Result<Script, ScriptFault>, AllocError>
     ensures read { IfOk result (λ read. read ≡ script_in centre.now text.now) }
-    ensures memory { IsErr result → HasGoodFront centre.now text.now }
+    ensures memory { IsErr result → error_told (script_in centre.now text.now) ≡ None }
 {
     let Some(first) = next_numbered(1, text) else {
         return Ok(Err(ScriptFault {
@@ -98,7 +97,7 @@ fn read_lines(
     }
 }
 
-/// The same, where a bad line in front of the first call is told without memory.
+/// The same, where a bad line is told without memory.
 fn read_behind(
     alloc: Global,
     centre: &Centre,
@@ -109,43 +108,28 @@ fn read_behind(
     requires { peer < length centre.now.tables }
     ensures read { IfOk result (λ read. read
         ≡ script_behind centre.now peer (numbered_from number (lines text.now))) }
-    ensures memory { IsErr result
-        → own.front_fault centre.now peer (numbered_from number (lines text.now)) ≡ None }
+    ensures memory { IsErr result → error_told
+        (script_behind centre.now peer (numbered_from number (lines text.now))) ≡ None }
 {
-    match front_fault(alloc, centre, peer, number, text) {
+    match first_fault(centre, peer, number, text) {
         Some(fault) => Ok(Err(fault)),
         None => read_all(alloc, centre, peer, number, text),
     }
 }
 
-/// The first bad line of a text, of whose lines the first has this number, if it stands in front of
-/// the first call.
-fn front_fault(
-    alloc: Global,
-    centre: &Centre,
-    peer: u32,
-    number: u64,
-    text: &[u8],
-) -> Option<ScriptFault>
+/// The first bad line of a text, of whose lines the first has this number.
+fn first_fault(centre: &Centre, peer: u32, number: u64, text: &[u8]) -> Option<ScriptFault>
     requires { peer < length centre.now.tables }
-    ensures { result
-        ≡ own.front_fault centre.now peer (numbered_from number (lines text.now)) }
+    ensures { result ≡ first_fault_in centre.now peer (numbered_from number (lines text.now)) }
 {
     let mut rest = text;
     let mut next = number;
     while let Some(line) = next_numbered(next, rest) {
-        if is_call(line.text) {
-            return None;
-        }
-        match read_step(alloc, centre, peer, line.text) {
-            Ok(Ok(_)) => {}
-            Ok(Err(why)) => {
-                return Some(ScriptFault {
-                    line: line.number,
-                    why,
-                });
-            }
-            Err(AllocError) => return None,
+        if let Some(why) = step_fault(centre, peer, line.text) {
+            return Some(ScriptFault {
+                line: line.number,
+                why,
+            });
         }
         rest = line.rest;
         next = line.next_number();

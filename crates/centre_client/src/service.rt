@@ -1,12 +1,8 @@
 //! A client over a link: what it says is sent, what it shows goes to a sink.
 
-mod run_end;
 mod running;
-mod sending;
 mod talking;
-mod terminal;
 
-pub use run_end::RunEnd;
+pub use asking_end::service::{LinkTerminal, RunEnd, Talk, Terminal};
 pub use running::run_client;
-pub use talking::Talk;
-pub use terminal::{LinkTerminal, Terminal};
+pub use talking::client_talk;

@@ -1,7 +1,7 @@
 //! The lines that a client shows.
 ghost use Rattle.std.specs.Prelude.{◌≡◌, ◌++◌, OnOk, OnErr};
 ghost use Rattle.plain_text.specs.Extends.{Extends};
-ghost use Rattle.centre_client.specs.Hearings.{shown_reply_line, shown_report_line};
+ghost use Rattle.centre_client.specs.Scripted.{shown_reply_line, shown_report_line};
 
 use ber_values::or_undo;
 use std::alloc::AllocError;

@@ -19,7 +19,7 @@ loop-line-preserved c =
     ∙ ap (λ (texts : List NumberedLine). in_front c.loop-line.steps (steps_in rows peer texts))
     c.in-Some.ensures.some
     ∙ step-taken rows peer line c.in-Ok.kind c.loop-line.steps more
-    (sym c.in_ok-kind.ensures.read ∙ c.in-Ok.is)
+    (sym c.in_ok-kind.ensures ∙ c.in-Ok.is)
     ∙ ap (λ (steps : List Step). in_front steps (steps_in rows peer more))
     (sym c.in_ok-push-in-Ok.ensures.ok)
     ∙ ap (λ (n : ℕ). in_front c.push.new.self (steps_in rows peer (numbered_from n rest)))

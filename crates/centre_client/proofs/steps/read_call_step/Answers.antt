@@ -1,21 +1,22 @@
-use Rattle.std.proofs.Common.{◌≡◌, Option, ap, sym, subst}
+use Rattle.std.proofs.Common.{◌≡◌, Result, sym, ◌∙◌, subst}
 use Rattle.std.specs.Prelude.{IfOk}
 use Rattle.plain_text.specs.Words.{words}
-use Rattle.tase_views.specs.declared.call.CallKind.{CallKind}
-use Rattle.texts.proofs.OfJournal.CallRead as whole
+use Rattle.texts.specs.Journal.CallIn.{call_in}
+use Rattle.centre_client.specs.declared.fault.ScriptWhy.{ScriptWhy}
+use Rattle.centre_client.specs.declared.script.StepKind.{StepKind}
 use Rattle.centre_client.specs.StepLines.{call_step}
+use Rattle.centre_client.proofs.LineFaultsMet.{fault-err, judged-good}
 use Rattle.centre_client.proofs.steps.read_call_step.Goals as goal
 
-pub returns-in-Ok : goal.returns-in-Ok
-returns-in-Ok c =
-    subst (λ (said : Option CallKind). IfOk c.judge_call.result
-    (λ read. read ≡ call_step c.args.centre.now c.args.peer said))
-    (sym (whole.call_in-words (words c.args.text.now) c.in-Ok.call
-    (rw c.in-Ok.is at c.in_ok-call.ensures.found)))
-    c.judge_call.ensures.read
+pub returns-in-Some : goal.returns-in-Some
+returns-in-Some c =
+    sym (fault-err (call_step c.args.centre.now c.args.peer (call_in (words c.args.text.now)))
+    c.in-Some.why (sym c.call_fault.ensures ∙ c.in-Some.is))
 
-pub returns-in-Err : goal.returns-in-Err
-returns-in-Err c =
-    let breaks = (c.in_ok-call.ensures.fault c.in-Err.field-0).0 c.in-Err.is in
-    sym (ap (call_step c.args.centre.now c.args.peer)
-    (whole.call_in-none (words c.args.text.now) breaks.unspelled))
+pub returns-in-None : goal.returns-in-None
+returns-in-None c =
+    subst (λ (step : Result StepKind ScriptWhy). IfOk c.read_judged_call.result
+    (λ read. read ≡ step))
+    (judged-good c.args.centre.now c.args.peer (call_in (words c.args.text.now))
+    (sym c.call_fault.ensures ∙ c.in-None.is))
+    c.read_judged_call.ensures

@@ -2,9 +2,7 @@ use Rattle.std.proofs.Common.{Result, Ok, Err, sym, ap, subst, ◌∙◌}
 use Rattle.bilateral.specs.Rows.{CentreRows}
 use Rattle.centre_client.specs.declared.fault.ScriptFault.{ScriptFault}
 use Rattle.centre_client.specs.declared.script.Script.{Script}
-use Rattle.centre_client.specs.Scripts.{HasScriptFault}
-use Rattle.centre_client.specs.Fronts.{HasGoodFront}
-use Rattle.centre_client.proofs.FrontLines.{script_good}
+use Rattle.centre_client.specs.Scripts.{HasScriptFault, IsScriptText}
 use Rattle.centre_client.proofs.client.Client.new.Goals as goal
 
 abbrev fault_or : ScriptFault → Result Script ScriptFault → ScriptFault
@@ -30,6 +28,8 @@ returns-in-Err-clause-fault c = λ fault h.
 
 pub returns-in_err-client-in-Ok-clause-memory : goal.returns-in_err-client-in-Ok-clause-memory
 returns-in_err-client-in-Ok-clause-memory c = λ lack.
-    subst (λ (rows : CentreRows). HasGoodFront rows c.args.script.now) c.deref-tables.ensures
-    (script_good c.deref-tables.result.now c.args.script.now c.in-Ok.script
-    (rw c.in-Ok.is at c.in_ok-script.ensures.found))
+    subst (λ (rows : CentreRows). IsScriptText rows c.args.script.now) c.deref-tables.ensures
+    (record {
+      script = c.in-Ok.script;
+      spelled = rw c.in-Ok.is at c.in_ok-script.ensures.found;
+    })

@@ -10,8 +10,7 @@ returns-then-self-len c =
     let playing : List Step → Playing = λ rest. record {
       peer = old.script.peer;
       rest = rest;
-      last = old.last;
-      awaiting = old.awaiting;
+      doing = old.doing;
     } in
     let one : drop (old.place + 1) old.script.steps ≡ drop 1 (drop old.place old.script.steps) =
     sym (drop-drop 1 old.place old.script.steps) in
