@@ -4,7 +4,7 @@ use Rattle.std.specs.declared.alloc.Global.{Global}
 use Rattle.outside.specs.Names.Outside.{OutsideTold}
 use Rattle.capture_text.specs.Captures.{capture_in}
 use Rattle.bilateral.specs.Rows.{CentreRows, place_of_peer}
-use Rattle.centre_client.specs.Fronts.{HasGoodFront}
+use Rattle.centre_client.specs.Scripts.{IsScriptText}
 use Rattle.tase_verify.specs.JournalIn.{journal_in}
 use Rattle.tase_verify.specs.LinkText.{given_in}
 use Rattle.tase_verify.specs.Verifying.{journal_setup}
@@ -92,10 +92,10 @@ LacksCheck question before after =
 
 -- ---- of a client
 
--- once its script is read, no line in front of the first call is bad, and nothing was connected to;
--- or it was played at its node
+-- once its script is read, no line of it is bad, and nothing was connected to; or it was played at
+-- its node
 abbrev pub LacksPlay : ClientTask → CentreRows → List ℕ → OutsideTold → OutsideTold → Type 0
-LacksPlay task rows text before after = ((after ≡ before) × HasGoodFront rows text)
+LacksPlay task rows text before after = ((after ≡ before) × IsScriptText rows text)
     ⊎ PlaysAtNode task rows text before after statuses.Memory
 
 abbrev pub LacksScript : ClientTask → CentreRows → OutsideTold → OutsideTold → Type 0
@@ -130,8 +130,7 @@ abbrev pub LacksCapture : List ℕ → OutsideTold → OutsideTold → Type 0
 LacksCapture name before after = LacksAt LacksMessages name TEXT_LIMIT before after
 
 -- where memory may be wanting for a command: a check hasn't read its last input to the end, no line
--- is bad of what its link gave, of a capture, or of a script in front of its first call, and a peer
--- has the key of a listing
+-- is bad of what its link gave, of a capture, or of a script, and a peer has the key of a listing
 abbrev pub LacksFor : Option Task → OutsideTold → OutsideTold → Type 0
 LacksFor (Some (verifies question)) before after = LacksCheck question before after
 LacksFor (Some (decodes_pdu capture)) before after = LacksCapture capture before after

@@ -77,8 +77,8 @@ use tase_replay::{ReplayEnd, replay};
 /// A load answers 0, 4 or 7: neither of its texts has a bad line, and its history is never full.
 ///
 /// Where it answers 7, a check hasn't read to its end what the association was sent, and no line is
-/// bad of what its link gave, of a capture that is listed or decoded, or of a client's script in
-/// front of its first call, where these were read.
+/// bad of what its link gave, of a capture that is listed or decoded, or of a client's script,
+/// where these were read.
 pub fn run<R: Threads + Wait + Copy + Send + 'static, O: Outside>(
     rt: &R,
     alloc: Global,

@@ -21,6 +21,7 @@ use Rattle.commands.proofs.OfIo.Entries.{IsKept}
 use Rattle.commands.specs.Words.Words.{ClientTask}
 use Rattle.commands.specs.Files.Tables.{tables_in}
 use Rattle.tase_tool.specs.Asking.Opening.{OpensBoth}
+use Rattle.tase_tool.specs.Client.Ending.{checkback_line}
 use Rattle.tase_tool.specs.Client.Playing.{GoesBehindScript, GoesBehindTables}
 use Rattle.tase_tool.specs.Client.Playing.{PlaysAtNode, PlaysScript, HasFaultyPart, IsScriptDone}
 use Rattle.tase_tool.proofs.OfAsking.Faults.{opened_grows, unopened_rises}
@@ -28,7 +29,8 @@ use Rattle.tase_tool.proofs.OfAsking.Inputs.{behind_unread, input_grows, input_k
 use Rattle.tase_tool.proofs.OfAsking.Inputs.{tables_grow, tables_rise, unread_unasked}
 use Rattle.tase_tool.proofs.OfAsking.Inputs.{unread_unfinished, value_lost}
 use Rattle.tase_tool.proofs.OfAsking.Objects as objects
-use Rattle.tase_tool.proofs.OfClient.Played.{played_rises, run_unasked, run_done}
+use Rattle.tase_tool.proofs.OfAsking.Told.{run_finished, run_unasked}
+use Rattle.tase_tool.proofs.OfClient.Played.{played_rises}
 use Rattle.tase_tool.proofs.OfClient.Reasons.{played_faulty, tables_faulty, script_faulty}
 
 -- ---- behind the script
@@ -50,8 +52,8 @@ module _ (task : ClientTask) (rows : CentreRows) (text : List ℕ) (before after
   text_rises (inr (inr wanting)) is = absurd cc
 
   text_unasked : PlaysScript task rows text before after status → status ≡ statuses.Usage → ⊥
-  text_unasked (inl (inl over)) is = run_unasked over.plays.end over.plays.shown over.plays.told
-      status over.plays.tells is
+  text_unasked (inl (inl over)) is = run_unasked true checkback_line over.plays.end
+      over.plays.shown over.plays.told status over.plays.tells is
   text_unasked (inl (inr unconnected)) is = absurd cc
   text_unasked (inr (inl refuses)) is = unread_unasked (codes "script")
       (Refused (BadLine refuses.fault.line)) before after status refuses.told is
@@ -190,7 +192,8 @@ text_done task rows text b m l a tables reads (inl (inl over)) = record {
   tables = tables;
   reads = reads;
   plays = over;
-  finished = run_done over.plays.end over.plays.shown over.plays.told over.plays.tells;
+  finished = (run_finished true checkback_line over.plays.end over.plays.shown over.plays.told
+      true over.plays.tells).0;
 }
 text_done task rows text b m l a tables reads (inl (inr unconnected)) =
     absurd (let e : statuses.Done ≡ statuses.Outside = unconnected.answers in cc)

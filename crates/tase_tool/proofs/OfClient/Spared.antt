@@ -2,17 +2,8 @@
 use Rattle.std.proofs.Common.{◌≡◌, ◌≢◌, ◌∙◌, ℕ, List, [], ◌∷◌, ap, subst, inl, inr}
 use Rattle.std.specs.Prelude.{Result, Ok, Err, Vec, codes}
 use Rattle.std.specs.declared.alloc.Global.{Global}
-use Rattle.outside.specs.Sink.{SinkTold}
-use Rattle.outside.specs.Links.LinkAnswers.{LinkAnswers}
-use Rattle.outside.specs.Links.Links.{LinkTold}
 use Rattle.outside.specs.Names.Outside.{OutsideTold}
 use Rattle.bilateral.specs.Rows.{CentreRows}
-use Rattle.centre_client.specs.declared.end.ClientEnd.{ClientEnd}
-use Rattle.centre_client.specs.declared.end.ClientEnd.TheVariants as ends
-use Rattle.centre_client.specs.declared.service.run_end.RunEnd.{RunEnd}
-use Rattle.centre_client.specs.declared.service.run_end.RunEnd.TheVariants as runs
-use Rattle.centre_client.specs.Service.Runs.{PlaysText}
-use Rattle.centre_client.specs.Service.Terminals.{link_terminal}
 use Rattle.commands.specs.declared.io.status.Status.{Status}
 use Rattle.commands.specs.declared.io.status.Status.TheVariants as statuses
 use Rattle.commands.specs.declared.io.input.TheConstants.{TEXT_LIMIT}
@@ -24,60 +15,14 @@ use Rattle.commands.specs.Io.Plans.{ReadsValue}
 use Rattle.commands.specs.Words.Words.{ClientTask}
 use Rattle.commands.specs.Files.Tables.{tables_in}
 use Rattle.tase_tool.specs.Asking.Opening.{OpensEach}
-use Rattle.tase_tool.specs.Client.Ending.{TellsClientEnd, TellsRunEnd}
-use Rattle.tase_tool.specs.Client.Playing.{PlaysOpened, PlaysAtNode, PlaysScript, GoesBehindScript}
+use Rattle.tase_tool.specs.Client.Playing.{PlaysAtNode, PlaysScript, GoesBehindScript}
 use Rattle.tase_tool.specs.Client.Playing.{GoesBehindTables, HasCleanParts}
-use Rattle.tase_tool.proofs.OfAsking.Closed.{closed_clean}
-use Rattle.tase_tool.proofs.OfAsking.Faults.{link_heard}
 use Rattle.tase_tool.proofs.OfAsking.Inputs.{kept_or_lost, read_same, read_unlost, unread_same}
 use Rattle.tase_tool.proofs.OfAsking.Inputs.{value_or_lost}
 use Rattle.tase_tool.proofs.OfAsking.Objects.{clean_behind, opened_clean}
-use Rattle.tase_tool.proofs.OfAsking.Told.{peer_spared}
-
--- ---- what is told of the end
-
-client_spared : (end : ClientEnd) (before after : SinkTold) (status : Status)
-    → TellsClientEnd end before after status → status ≢ statuses.Outside
-    → after.faults ≡ before.faults
-client_spared ends.Finished before after status tells other =
-    ap (λ (k : SinkTold). k.faults) tells.1
-client_spared ends.PeerEnd before after status tells other =
-    peer_spared _ before after status tells other
-client_spared (ends.Refused fault) before after status tells other =
-    peer_spared _ before after status tells other
-client_spared ends.Rejected before after status tells other =
-    peer_spared _ before after status tells other
-client_spared (ends.Checkback want got) before after status tells other =
-    peer_spared _ before after status tells other
-client_spared (ends.Stray invoke) before after status tells other =
-    peer_spared _ before after status tells other
-client_spared ends.Memory before after status tells other =
-    ap (λ (k : SinkTold). k.faults) tells.1
+use Rattle.tase_tool.proofs.OfClient.Played.{played_same}
 
 -- ---- what was handed out
-
-module _ (rows : CentreRows) (text : List ℕ) (link : LinkTold) (sink : SinkTold)
-    (o a : OutsideTold) (status : Status)
-    (played : PlaysOpened rows text link sink o a status) (other : status ≢ statuses.Outside)
-  where
-    by_end : (end : RunEnd) (first : LinkAnswers)
-        → PlaysText rows text (link_terminal link sink) (link_terminal played.gone played.shown)
-        first end
-        → TellsRunEnd end played.shown played.told status
-        → (played.gone.faults ≡ link.faults) × (played.told.faults ≡ sink.faults)
-    by_end (runs.Ended end) first plays tells = (
-      plays.plays.uses.faults,
-      client_spared end played.shown played.told status tells other ∙ plays.plays.appends.faults,
-    )
-    by_end runs.LinkFault first plays tells = absurd (other tells.0)
-    by_end runs.SinkFault first plays tells = absurd (other tells.0)
-
-    played_same : link.faults ≡ 0 → sink.faults ≡ 0 → a.faults ≡ o.faults
-    played_same clean_link clean_sink =
-        let first = link_heard link in
-        let kept = by_end played.end first.0 (played.plays first.0 first.1) played.tells in
-        closed_clean played.gone played.told o played.mid a played.leaves played.closes
-        (kept.0 ∙ clean_link) (kept.1 ∙ clean_sink)
 
 over_same : (task : ClientTask) (rows : CentreRows) (text : List ℕ) (t a : OutsideTold)
     (status : Status) → PlaysAtNode task rows text t a status → HasCleanParts task t

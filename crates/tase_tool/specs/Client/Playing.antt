@@ -9,13 +9,14 @@ use Rattle.server_main.specs.NodeServer.Links.LinkUses.{HasHeard}
 use Rattle.bilateral.specs.Rows.{CentreRows}
 use Rattle.centre_client.specs.declared.script.Script.{Script}
 use Rattle.centre_client.specs.declared.fault.ScriptFault.{ScriptFault}
-use Rattle.centre_client.specs.Scripts.{HasScriptFault, SpellsScript}
-use Rattle.centre_client.specs.Fronts.{HasGoodFront}
-use Rattle.centre_client.specs.declared.end.ClientEnd.TheVariants as ends
-use Rattle.centre_client.specs.declared.service.run_end.RunEnd.{RunEnd}
-use Rattle.centre_client.specs.declared.service.run_end.RunEnd.TheVariants as runs
-use Rattle.centre_client.specs.Service.Runs.{PlaysText}
-use Rattle.centre_client.specs.Service.Terminals.{link_terminal}
+use Rattle.centre_client.specs.Scripts.{HasScriptFault, SpellsScript, IsScriptText}
+use Rattle.centre_client.specs.declared.play.Checkback.{Checkback}
+use Rattle.centre_client.specs.Clients.{Caller}
+use Rattle.centre_client.specs.Runs.{PlaysText}
+use Rattle.tase_discover.specs.AskingEnd.declared.end.AskEnd.TheVariants as ends
+use Rattle.tase_discover.specs.AskingEnd.declared.service.run_end.RunEnd.{RunEnd}
+use Rattle.tase_discover.specs.AskingEnd.declared.service.run_end.RunEnd.TheVariants as runs
+use Rattle.tase_discover.specs.AskingEnd.Service.Terminals.{link_terminal}
 use Rattle.commands.specs.declared.io.status.Status.{Status}
 use Rattle.commands.specs.declared.io.status.Status.TheVariants as statuses
 use Rattle.commands.specs.declared.io.input.TheConstants.{TEXT_LIMIT}
@@ -39,9 +40,10 @@ pub record PlaysOpened (rows : CentreRows) (text : List ℕ) (link : LinkTold) (
     (before after : OutsideTold) (status : Status) : Type 0 where
   pub gone : LinkTold
   pub shown : SinkTold
-  pub end : RunEnd
+  pub end : RunEnd Checkback
+  pub client : Caller
   pub plays : (first : LinkAnswers) → HasHeard link first
-      → PlaysText rows text (link_terminal link sink) (link_terminal gone shown) first end
+      → PlaysText rows text (link_terminal link sink) (link_terminal gone shown) first end client
   pub mid : OutsideTold
   pub leaves : LeavesLink before mid gone
   pub told : SinkTold
@@ -79,12 +81,12 @@ pub record RefusesScript (rows : CentreRows) (text : List ℕ) (before after : O
   pub told : EndsUnread (codes "script") (Refused (BadLine fault.line)) before after status
 
 -- what a text that is to be a script comes to; or memory is wanting, and nothing is touched: then
--- no line in front of its first call is bad
+-- no line of it is bad
 abbrev pub PlaysScript : ClientTask → CentreRows → List ℕ → OutsideTold → OutsideTold → Status
     → Type 0
 PlaysScript task rows text before after status = MeetsNode task rows text before after status
     ⊎ (RefusesScript rows text before after status
-    ⊎ ((status ≡ statuses.Memory) × (after ≡ before) × HasGoodFront rows text))
+    ⊎ ((status ≡ statuses.Memory) × (after ≡ before) × IsScriptText rows text))
 
 -- what the command does behind its script, which was read to this
 abbrev pub GoesBehindScript : ClientTask → CentreRows → Result (Vec ℕ Global) InputEnd

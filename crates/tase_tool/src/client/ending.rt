@@ -5,14 +5,15 @@ ghost use Rattle.tase_tool.specs.Client.Ending as own;
 
 use crate::asking::ending::{peer_status, write_refused, write_stray};
 use crate::lines::write_line;
-use centre_client::ClientEnd;
+use centre_client::Checkback;
 use centre_client::service::RunEnd;
 use commands::io::{Status, tell};
 use itoa::Buffer;
 use outside::{Sink, SinkFailed};
+use tase_discover::asking::AskEnd;
 
 /// Tells how the run of a client ended, where its link and its sink haven't failed.
-pub(crate) fn tell_run_end<K: Sink>(sink: &mut K, end: RunEnd) -> Status
+pub(crate) fn tell_run_end<K: Sink>(sink: &mut K, end: RunEnd<Checkback>) -> Status
     ensures { TellsRunEnd end (K.told sink.old) (K.told sink.new) result }
 {
     match end {
@@ -23,27 +24,28 @@ pub(crate) fn tell_run_end<K: Sink>(sink: &mut K, end: RunEnd) -> Status
 }
 
 /// Tells how a client ended, where its script wasn't played to its end.
-fn tell_client_end<K: Sink>(sink: &mut K, end: ClientEnd) -> Status
+fn tell_client_end<K: Sink>(sink: &mut K, end: AskEnd<Checkback>) -> Status
     ensures { TellsClientEnd end (K.told sink.old) (K.told sink.new) result }
 {
     match end {
-        ClientEnd::Finished => Status::Done,
-        ClientEnd::PeerEnd => tell(sink, Status::Peer, b"peer end\n"),
-        ClientEnd::Refused(fault) => peer_status(write_refused(sink, fault)),
-        ClientEnd::Rejected => tell(sink, Status::Peer, b"peer rejected\n"),
-        ClientEnd::Checkback { want, got } => peer_status(write_checkback(sink, want, got)),
-        ClientEnd::Stray { invoke } => peer_status(write_stray(sink, invoke)),
-        ClientEnd::Memory => Status::Memory,
+        AskEnd::Finished => Status::Done,
+        AskEnd::PeerEnd => tell(sink, Status::Peer, b"peer end\n"),
+        AskEnd::Refused(fault) => peer_status(write_refused(sink, fault)),
+        AskEnd::Rejected => tell(sink, Status::Peer, b"peer rejected\n"),
+        AskEnd::Stray { invoke } => peer_status(write_stray(sink, invoke)),
+        AskEnd::ByAgenda(checkback) => peer_status(write_checkback(sink, checkback)),
+        AskEnd::Memory => Status::Memory,
     }
 }
 
 /// `checkback WANT GOT`.
-fn write_checkback<K: Sink>(sink: &mut K, want: i64, got: i64) -> Result<(), SinkFailed>
-    ensures { WritesAll (K.told sink.old) (K.told sink.new) (own.checkback_line want got) result }
+fn write_checkback<K: Sink>(sink: &mut K, checkback: Checkback) -> Result<(), SinkFailed>
+    ensures { WritesAll (K.told sink.old) (K.told sink.new) (own.checkback_line checkback)
+        result }
 {
     let mut wanted = Buffer::new();
     let mut given = Buffer::new();
-    let first = wanted.format(want);
-    let second = given.format(got);
+    let first = wanted.format(checkback.want);
+    let second = given.format(checkback.got);
     write_line(sink, b"checkback", first.as_bytes(), second.as_bytes())
 }

@@ -3,7 +3,7 @@ ghost use Rattle.std.specs.Prelude.{List, ℕ, Ok};
 ghost use Rattle.std.specs.Arc.{arc_value};
 ghost use Rattle.commands.specs.Io.Inputs.{value_as};
 ghost use Rattle.bilateral.specs.Rows.{CentreRows};
-ghost use Rattle.centre_client.specs.Service.Talks.{IsTalk};
+ghost use Rattle.centre_client.specs.Runs.{IsClientTalk};
 ghost use Rattle.commands.specs.Words.Words.{client_seen};
 ghost use Rattle.tase_tool.specs.Client.Playing.{ClientCommand, GoesBehindTables, GoesBehindScript};
 ghost use Rattle.tase_tool.specs.Client.Playing.{PlaysScript, MeetsNode, PlaysOpened};
@@ -12,8 +12,8 @@ ghost use Rattle.tase_tool.specs.Client.Playing.{IsShared};
 use crate::asking::opening::{close_link, open_both};
 use crate::client::ending::tell_run_end;
 use bilateral::Centre;
-use centre_client::ScriptFault;
-use centre_client::service::{LinkTerminal, Talk, run_client};
+use centre_client::service::{LinkTerminal, Talk, client_talk, run_client};
+use centre_client::{ScriptFault, ScriptPlay};
 use commands::files::read_tables;
 use commands::io::{
     InputEnd, Refusal, RefusedLine, Status, TEXT_LIMIT, end_unread, note_line_and_why, read_input,
@@ -121,7 +121,7 @@ impl<'a, R: Wait> ClientRun<'a, R> {
         ensures { PlaysScript (client_seen self.now.words) (arc_value centre.now) text.now
             (O.told outside.old) (O.told outside.new) result }
     {
-        match Talk::new(self.alloc, centre, text) {
+        match client_talk(self.alloc, centre, text) {
             Ok(Ok(talk)) => self.connect(outside, talk),
             Ok(Err(fault)) => {
                 note_fault(self.alloc, outside, text, fault);
@@ -132,8 +132,8 @@ impl<'a, R: Wait> ClientRun<'a, R> {
     }
 
     /// Connects, and has a client talk over the link.
-    fn connect<O: Outside>(&self, outside: &mut O, talk: Talk) -> Status
-        ensures { (rows : CentreRows) (text : List ℕ) → IsTalk rows text talk
+    fn connect<O: Outside>(&self, outside: &mut O, talk: Talk<ScriptPlay>) -> Status
+        ensures { (rows : CentreRows) (text : List ℕ) → IsClientTalk rows text talk
             → MeetsNode (client_seen self.now.words) rows text (O.told outside.old)
             (O.told outside.new) result }
     {
@@ -147,11 +147,11 @@ impl<'a, R: Wait> ClientRun<'a, R> {
     fn play_opened<O: Outside>(
         &self,
         outside: &mut O,
-        talk: Talk,
+        talk: Talk<ScriptPlay>,
         link: O::Link,
         sink: O::Out,
     ) -> Status
-        ensures { (rows : CentreRows) (text : List ℕ) → IsTalk rows text talk
+        ensures { (rows : CentreRows) (text : List ℕ) → IsClientTalk rows text talk
             → PlaysOpened rows text (O.Link.told link) (O.Out.told sink) (O.told outside.old)
             (O.told outside.new) result }
     {

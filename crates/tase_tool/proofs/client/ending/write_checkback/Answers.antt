@@ -9,8 +9,8 @@ use Rattle.tase_tool.proofs.client.ending.write_checkback.Goals as goal
 
 pub returns : goal.returns
 returns g c =
-    let want = c.args.want in
-    let got = c.args.got in
+    let want = c.args.checkback.want in
+    let got = c.args.checkback.got in
     let want_fits : FitsSigned w64 want = search rules in
     let got_fits : FitsSigned w64 got = search rules in
     let Gives : List ℕ → List ℕ → Type 0 = λ x y. WritesAll (g.K.Sink.told c.args.sink.now)
