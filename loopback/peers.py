@@ -107,6 +107,12 @@ def within(seconds, is_so):
     return is_so()
 
 
+def memory(process, line):
+    """A line of what the system says of a process's memory, in KiB; 0 of one that has ended."""
+    found = re.search(rf"{line}:\s+(\d+)", open(f"/proc/{process}/status").read())
+    return int(found[1]) if found else 0
+
+
 class Server:
     """The program's server, with a pipe for its feed; its plant's lines are gathered."""
 
@@ -147,7 +153,7 @@ class Server:
 
     def memory(self):
         """What it has in memory, in KiB."""
-        return int(re.search(r"VmRSS:\s+(\d+)", open(f"/proc/{self.run.pid}/status").read())[1])
+        return memory(self.run.pid, "VmRSS")
 
     def end(self, seconds=10):
         try:
@@ -288,6 +294,43 @@ class Raw:
         """Closes so that the server gets a reset."""
         self.socket.setsockopt(socket.SOL_SOCKET, socket.SO_LINGER, struct.pack("ii", 1, 0))
         self.socket.close()
+
+
+class Offers:
+    """A node that answers an association, and then each request by the next page of names; each page is a list of names, and whether more follow."""
+
+    def __init__(self, *pages):
+        self.pages, self.gate = pages, socket.create_server(("127.0.0.1", 0))
+        self.port = self.gate.getsockname()[1]
+        self.thread = threading.Thread(target=self.answer)
+        self.thread.start()
+
+    def answer(self):
+        self.gate.settimeout(30)
+        try:
+            link, _ = self.gate.accept()
+            link.settimeout(PATIENCE)
+            for said in (V2, V4, *(self.page(number, *it) for number, it in enumerate(self.pages, 1))):
+                head = link.recv(4, socket.MSG_WAITALL)
+                if len(head) < 4:
+                    break
+                link.recv(int.from_bytes(head[2:4], "big") - 4, socket.MSG_WAITALL)
+                link.sendall(said)
+            while link.recv(65536):
+                pass
+            link.close()
+        except OSError:
+            pass
+        self.gate.close()
+
+    @staticmethod
+    def page(invoke, names, more):
+        listed = value(0xa0, *(value(0x1a, it.encode()) for it in names))
+        pdu = value(0xa1, number(invoke), value(0xa1, listed, b"\x81\1\xff" if more else b"\x81\1\0"))
+        octets = b"\x01\x00\x01\x00" + value(0x61, value(0x30, b"\x02\x01\x03", value(0xa0, pdu)))
+        # (a message goes in TPDUs of 1,024 octets)
+        parts = [octets[at:at + 1021] for at in range(0, len(octets), 1021)]
+        return b"".join(tpkt(it)[:6] + (b"\x80" if it is parts[-1] else b"\x00") + it for it in parts)
 
 
 def play(tase, folder, server, key, script, name, mark=None, relay=None, tables="tables"):
